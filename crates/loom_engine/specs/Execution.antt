@@ -16,7 +16,7 @@ use Rattle.loom_objects.specs.World.{World}
 use Rattle.loom_objects.specs.declared.rt.run.Entry.{Entry}
 use Rattle.loom_objects.specs.Dependence.Order.{Order}
 use Rattle.loom_objects.specs.declared.rt.dependence.Dependence.{Dependence}
-use Rattle.loom_objects.specs.Dependence.Shown.{ShowsOrder}
+use Rattle.loom_objects.specs.Dependence.Shown.{Keeps}
 use Rattle.loom_engine.specs.declared.rt.execution.Progress.{Progress}
 use Rattle.loom_objects.specs.declared.rt.run.Passed.{Passed}
 use Rattle.loom_objects.specs.Rules.Steps.{begins, resumes}
@@ -42,16 +42,16 @@ pub record ExecutionState (D : Type 0) : Type 0 where
   pub run : Progress D
   pub over : Option Stop
 
--- the order that an access leads to is kept, or the access stops the run
-abbrev pub Notes : Result Order FailureKind → Result ⊤ Stop → Dependence → Type 0
-Notes (Ok order) result new = (result ≡ Ok tt) × ShowsOrder order new
-Notes (Err kind) result new = result ≡ Err (Failure (record { kind = kind; location = None }))
+-- the order that an access leads to is kept, or its counts are, or the access stops the run
+abbrev pub Notes : Bool → Result Order FailureKind → Result ⊤ Stop → Dependence → Type 0
+Notes is_ordered (Ok order) result new = (result ≡ Ok tt) × Keeps is_ordered order new
+Notes is_ordered (Err kind) result new = result ≡ Err (Failure (record { kind = kind; location = None }))
 
--- The run along this path shows the course: its state and its order of accesses; and the path has passed as many nodes, and
--- explores as it does.
+-- The run along this path shows the course: its state, and its order of accesses, if the search is reduced; else it counts them. And
+-- the path has passed as many nodes, and explores as it does.
 pub record ShowsCourse {D : Type 0} (c : Course D) (run : Progress D) (path : Route) : Type 0 where
   pub world : Shows c.world run.state
-  pub order : ShowsOrder c.order run.dependence
+  pub order : Keeps path.search.reduce c.order run.dependence
   pub place : c.passed ≡ path.position
   pub exploring : c.exploring ≡ path.exploring
 
@@ -67,15 +67,15 @@ module _ {D : Type 0} where
   Along rule old path result new after = (c : Course D) → ShowsCourse c old path → Comes (rule c) path result new after
 
   -- What an operation does up to its branch point, as the rule says of each course that was shown: the state after it is shown, and
-  -- so is the order, with what the operation made.
-  abbrev pub StartsAt : Course D → Tree (Entry D × World D) → Result (Entry D) Stop → Progress D → Type 0
-  StartsAt c tree (Ok entry) new =
-      (w : World D) × (tree ≡ Gives (entry, w)) × Shows w new.state × ShowsOrder (grown_from c.world (record c { world = w })).order new.dependence
-  StartsAt c tree (Err (Failure failure)) new = tree ≡ Fails failure.kind
-  StartsAt c tree (Err Memory) new = Unit {0}
+  -- so is the order, or its counts, with what the operation made.
+  abbrev pub StartsAt : Bool → Course D → Tree (Entry D × World D) → Result (Entry D) Stop → Progress D → Type 0
+  StartsAt is_ordered c tree (Ok entry) new =
+      (w : World D) × (tree ≡ Gives (entry, w)) × Shows w new.state × Keeps is_ordered (grown_from c.world (record c { world = w })).order new.dependence
+  StartsAt is_ordered c tree (Err (Failure failure)) new = tree ≡ Fails failure.kind
+  StartsAt is_ordered c tree (Err Memory) new = Unit {0}
 
-  abbrev pub Starts : Request D ⊤ → Progress D → Result (Entry D) Stop → Progress D → Type 0
-  Starts op old result new = (c : Course D) → Shows c.world old.state → ShowsOrder c.order old.dependence → StartsAt c (begins op c.world) result new
+  abbrev pub Starts : Bool → Request D ⊤ → Progress D → Result (Entry D) Stop → Progress D → Type 0
+  Starts is_ordered op old result new = (c : Course D) → Shows c.world old.state → Keeps is_ordered c.order old.dependence → StartsAt is_ordered c (begins op c.world) result new
 
   -- what the chosen thread has pending takes effect, once its node was passed
   abbrev pub takes_turn : ℕ → Course D → Tree (Passed D × Course D)

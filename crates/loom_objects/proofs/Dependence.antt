@@ -1,4 +1,5 @@
 pub mod Asked
+pub mod Counts
 pub mod Grown
 pub mod Lists
 pub mod Steps

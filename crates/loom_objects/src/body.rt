@@ -22,4 +22,13 @@ pub trait Body: Drop {
     /// A body in the same state. It fails only where a growth is refused.
     fn try_clone(&self) -> Result<Self, AllocError>
         ensures { IfOk result (λ copy. copy ≡ self.now) };
+
+    /// Goes over to the state of another body. It fails only where a growth is refused. A body that needs memory may use again what
+    /// it has; without a definition of its own it is let go for a copy of the other (own).
+    fn restart(&mut self, start: &Self) -> Result<(), AllocError>
+        ensures { IfOk result (λ _. self.new ≡ start.now) }
+    {
+        *self = start.try_clone()?;
+        Ok(())
+    }
 }

@@ -14,3 +14,4 @@ pub mod SomeReadable
 pub mod Sweeping
 pub mod Table
 pub mod TableLaws
+pub mod Touches

@@ -5,6 +5,7 @@ pub mod Growth
 pub mod Lanes
 pub mod Reaching
 pub mod Records
+pub mod Shelves
 pub mod ThreadMoves
 pub mod VersionLists
 pub mod Views

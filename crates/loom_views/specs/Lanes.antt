@@ -32,3 +32,7 @@ pub record IsLaidOut (vs : List ℕ) (word : ℕ) : Type 0 where
 pub record IsFirstLarger (word other t : ℕ) : Type 0 where
   pub larger : lane word t < lane other t
   pub first : (k : ℕ) → k < t → lane other k ≤ lane word k
+
+-- in each lane the other word has the larger number
+abbrev pub AreLarger : ℕ → ℕ → Type 0
+AreLarger word other = (t : ℕ) → t < 8 → lane word t < lane other t

@@ -9,6 +9,7 @@ pub mod Laws
 pub mod Limits
 pub mod Numbers
 pub mod Orderings
+pub mod Places
 pub mod Sequences
 pub mod Sight
 pub mod ThreadViews

@@ -3,7 +3,7 @@
 //! the body's story. Each run of a check, each replay and each explanation is made by it.
 pub(crate) mod drawing;
 
-ghost use Rattle.std.specs.Prelude.{◌≡◌, ◌≢◌, ◌≤◌, ◌+◌, Bool, [], None, Err, OnOk, OnErr, IfOk};
+ghost use Rattle.std.specs.Prelude.{◌≡◌, ◌≢◌, ◌≤◌, ◌+◌, ◌∷◌, Bool, [], None, Err, OnOk, OnErr, IfOk};
 ghost use Rattle.loom_objects.specs.Operation.Plain.{plain, started};
 ghost use Rattle.loom_engine.specs.Execution.{Along, ShowsCourse, over_after};
 ghost use Rattle.loom_engine.specs.Runs.Course.{opening};
@@ -76,10 +76,22 @@ pub(crate) fn run<B: Body, L: Listener<B::Data>>(
     ensures located { IfOk result (IsLocated L.knows_locations) }
     ensures same { IsSameSearch path.old path.new }
 {
-    room.bodies.clear();
-    room.bodies.push(body.try_clone()?)?;
+    begin(&mut room.bodies, body)?;
     room.execution.restart(limits)?;
     take_turns(&mut room.execution, &mut room.bodies, path, listener)
+}
+
+/// The body alone, as it is. What the first of those before it needed room for is used again.
+#[inline(always)]
+fn begin<B: Body>(bodies: &mut Vec<B>, body: &B) -> Result<(), AllocError>
+    ensures { IfOk result (λ _. bodies.new.items ≡ body.now ∷ []) }
+{
+    bodies.truncate(1);
+    if bodies.is_empty() {
+        bodies.push(body.try_clone()?)?;
+        return Ok(());
+    }
+    bodies[0].restart(body)
 }
 
 /// From its start the run goes on by turns, until it ends or fails. An error only where a growth was refused.

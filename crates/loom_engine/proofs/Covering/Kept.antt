@@ -1,12 +1,15 @@
 -- What is kept of a run that stands at a branch point tells its state.
-use Rattle.std.proofs.Common.{◌≡◌, ◌⊎◌, ℕ, zero, suc, arith, List, [], ◌∷◌, length, Some, ap, sym, ◌∙◌, subst}
+use Rattle.std.proofs.Common.{◌≡◌, ◌⊎◌, ℕ, Bool, true, false, zero, suc, arith, List, [], ◌∷◌, length, Some, ap, sym, ◌∙◌, subst}
 use Rattle.std.specs.List.{Contains}
 use Rattle.std.specs.Prelude.{slice_get}
 use Rattle.loom_views.specs.Sight.{Sight as SightOfPoints, seen}
 use Rattle.loom_views.specs.Views.{Points, ShowsViews, opening as first_points}
 use Rattle.loom_views.specs.declared.rt.views.Views.{Views}
 use Rattle.loom_views.proofs.Sight.Shown.{shown_law}
+use Rattle.loom_objects.specs.Dependence.Order.{Order}
+use Rattle.loom_objects.specs.Dependence.Shown.{Keeps}
 use Rattle.loom_objects.specs.declared.operation.Lazy.{Lazy}
+use Rattle.loom_objects.specs.declared.rt.dependence.Dependence.{Dependence}
 use Rattle.loom_objects.specs.declared.rt.exploring.Exploring.{Exploring}
 use Rattle.loom_objects.specs.declared.rt.exploring.Exploring.TheVariants.{On}
 use Rattle.loom_objects.specs.declared.rt.object.Object.{Object}
@@ -21,6 +24,11 @@ use Rattle.loom_engine.specs.Covering.Kept.{HasScene, IsKeptOf, Key, KeptLaw, st
 use Rattle.loom_engine.specs.Covering.Points.{Sight}
 use Rattle.loom_engine.specs.Covering.Sight.{seen_at}
 use Rattle.loom_engine.specs.Covering.States.{State, state_of}
+
+-- as many threads have counts as an order has, whichever is kept
+kept_count : (is_ordered : Bool) (o : Order) (d : Dependence) → Keeps is_ordered o d → length o.threads ≡ length d.threads
+kept_count true o d h = h.count
+kept_count false o d h = h.count
 
 module _ {D : Type 0} where
   -- what is seen of a world that explores
@@ -58,7 +66,7 @@ module _ {D S : Type 0} where
       seen_so ∙ ap (λ (n : ℕ). record s { exploring = On; more = n; seen = looked (world_of w.points is.run.state.steps_left is.run.state.scene) (seen w.points) }) is.first in
       let ordered_so : s ≡ told (state_in is.run is.moment.bodies) (seen w.points) =
       more_so
-      ∙ ap (λ (n : ℕ). record s { exploring = On; more = further_branches; ordered = n; seen = looked (world_of w.points is.run.state.steps_left is.run.state.scene) (seen w.points) }) is.shown.order.count in
+      ∙ ap (λ (n : ℕ). record s { exploring = On; more = further_branches; ordered = n; seen = looked (world_of w.points is.run.state.steps_left is.run.state.scene) (seen w.points) }) (kept_count is.path.search.reduce is.moment.course.order is.run.dependence is.shown.order) in
       is.state ∙ ap (λ (x : State S (Sight D (SightOfPoints ⊎ Points))). (Some x, [])) (ordered_so ∙ ap (λ (k : Kept D S). told k (seen w.points)) (sym is.copied))
 
   seen_same : (kept : Kept D S) (one other : Key D S) (is : IsKeptOf kept one) (too : IsKeptOf kept other) → seen is.moment.course.world.points ≡ seen too.moment.course.world.points

@@ -11,7 +11,6 @@ use Rattle.loom_objects.specs.declared.operation.Turn.{Turn}
 use Rattle.loom_objects.specs.declared.operation.Turn.TheVariants as turn
 use Rattle.loom_objects.specs.declared.rt.run.Entry.{Entry}
 use Rattle.loom_objects.specs.declared.rt.run.Entry.TheVariants.{Answered, AtBranch, Explores, Spurious as AtSpurious}
-use Rattle.loom_objects.specs.Dependence.Shown.{ShowsOrder}
 use Rattle.loom_objects.specs.Exploring.{is_on}
 use Rattle.loom_objects.specs.Rules.Steps.{enters_wait}
 use Rattle.loom_objects.specs.Scene.Shown.{Shows, Comes as world_comes}
@@ -28,7 +27,7 @@ use Rattle.loom_engine.specs.Runs.Course.{Course, carried, grown_from, one_passe
 use Rattle.loom_engine.specs.Runs.Machine.{switches}
 use Rattle.loom_engine.specs.Trees.Marks.{marking}
 use Rattle.loom_engine.specs.Trees.Drive.{backtrack}
-use Rattle.loom_engine.proofs.Execution.Executing.{unmarked, asked, refused, answer_passes, same_way}
+use Rattle.loom_engine.proofs.Execution.Executing.{unmarked, asked, refused, answer_passes, kept_on, same_way}
 use Rattle.loom_engine.proofs.Trees.Binding.{drive_then, drive_fails}
 
 plus_one : (n : ℕ) → n + 1 ≡ suc n
@@ -75,7 +74,7 @@ module _ {D : Type 0} where
             record (one_passed c) { world = come.0 },
             record {
               world = come.1;
-              order = subst (λ d. ShowsOrder c.order d) (sym kept) shown.order;
+              order = kept_on path via same.0.0 c.order old.dependence mid.dependence kept shown.order;
               place = ap suc shown.place ∙ sym (answer_passes path.search (trail path) (whether_spurious (is_on path.exploring)) (Spurious is_spurious) (trail via) says ∙ plus_one path.position);
               exploring = shown.exploring ∙ sym same.1;
             },
@@ -84,7 +83,7 @@ module _ {D : Type 0} where
 
   -- ---- the beginning
 
-  begun_course : (op : Request D ⊤) (entry : Entry D) (old mid : Progress D) (path : Route) → Starts op old (Ok entry) mid → (c : Course D) → ShowsCourse c old path
+  begun_course : (op : Request D ⊤) (entry : Entry D) (old mid : Progress D) (path : Route) → Starts path.search.reduce op old (Ok entry) mid → (c : Course D) → ShowsCourse c old path
       → (v : Course D) × ShowsCourse v mid path × (drives (begins_at op c) path ≡ drives (comes_to (entry, v)) path)
   begun_course op entry old mid path starts c shown =
       let come = starts c shown.world shown.order in (
@@ -94,12 +93,12 @@ module _ {D : Type 0} where
       )
 
   module _ (op : Request D ⊤) (old mid : Progress D) (path : Route) where
-    pub begin_stops : (stop : Stop) → Starts op old (Err stop) mid → Along (begins_at op) old path (Err stop) mid path
+    pub begin_stops : (stop : Stop) → Starts path.search.reduce op old (Err stop) mid → Along (begins_at op) old path (Err stop) mid path
     begin_stops (Failure failure) starts c shown =
         ap (λ (tree : Tree (Entry D × World D)). drives (carried c tree >>= (λ started. comes_to (started.0, grown_from c.world started.1))) path) (starts c shown.world shown.order)
     begin_stops Memory starts c shown = tt
 
-    pub begin_answered : (answer : Reply D) (active : ℕ) → active ≡ mid.state.scene.active → Starts op old (Ok (Answered answer)) mid
+    pub begin_answered : (answer : Reply D) (active : ℕ) → active ≡ mid.state.scene.active → Starts path.search.reduce op old (Ok (Answered answer)) mid
         → Along (begins_at op) old path (Ok (begun.Turn (turn.Reply active answer))) mid path
     begin_answered answer active is starts c shown =
         let v = begun_course op (Answered answer) old mid path starts c shown in (
@@ -108,15 +107,15 @@ module _ {D : Type 0} where
           v.2 ∙ ap (λ (t : ℕ). (Ok (begun.Turn (turn.Reply t answer), v.0), trail path)) (ap (λ (w : World D). w.active) v.1.world.rest ∙ sym is),
         )
 
-    pub begin_at_branch : Starts op old (Ok AtBranch) mid → Along (begins_at op) old path (Ok begun.AtBranch) mid path
+    pub begin_at_branch : Starts path.search.reduce op old (Ok AtBranch) mid → Along (begins_at op) old path (Ok begun.AtBranch) mid path
     begin_at_branch starts c shown = begun_course op AtBranch old mid path starts c shown
 
-    pub begin_waits : (n : ℕ) → Starts op old (Ok (AtSpurious n)) mid → (result : Result (Begun D) Stop) (new : Progress D) (after : Route) → Along (wakes_at n) mid path result new after → Along (begins_at op) old path result new after
+    pub begin_waits : (n : ℕ) → Starts path.search.reduce op old (Ok (AtSpurious n)) mid → (result : Result (Begun D) Stop) (new : Progress D) (after : Route) → Along (wakes_at n) mid path result new after → Along (begins_at op) old path result new after
     begin_waits n starts result new after onward c shown =
         let v = begun_course op (AtSpurious n) old mid path starts c shown in
         same_way (begins_at op c) (wakes_at n v.0) path path result new after v.2 (onward v.0 v.1)
 
-    pub begin_switches : (todo : ExploreOp) → Starts op old (Ok (Explores todo)) mid → (result : Result (Turn D) Stop) (new : Progress D) (after : Route) → Along (switches todo) mid path result new after
+    pub begin_switches : (todo : ExploreOp) → Starts path.search.reduce op old (Ok (Explores todo)) mid → (result : Result (Turn D) Stop) (new : Progress D) (after : Route) → Along (switches todo) mid path result new after
         → Along (begins_at op) old path (begun_with result) new after
     begin_switches todo starts result new after onward c shown =
         let v = begun_course op (Explores todo) old mid path starts c shown in

@@ -19,7 +19,7 @@ use Rattle.loom_objects.specs.declared.rt.run.Passed.{Passed}
 use Rattle.loom_objects.specs.declared.rt.run.Passed.TheVariants as passed
 use Rattle.loom_objects.specs.declared.rt.run.Resumed.TheVariants as resumed
 use Rattle.loom_objects.specs.declared.rt.schedule.Offers.{Offers}
-use Rattle.loom_objects.specs.Dependence.Shown.{ShowsOrder}
+use Rattle.loom_objects.specs.Dependence.Shown.{Keeps}
 use Rattle.loom_objects.specs.Exploring.{is_on, switched}
 use Rattle.loom_objects.specs.Operation.Accessed.{accessed}
 use Rattle.loom_objects.specs.Rules.Ending.{all_ended, end_of}
@@ -103,22 +103,22 @@ module _ {D : Type 0} where
     module _ (via : Route) (same : IsSame path via) where
       -- its access can't be noted
       pub unnoted_drawn : (thread place : ℕ) → DrawsThread (Ok (Some thread)) via → (stop : Stop) (new : Progress D) → place ≡ path.position
-          → ((c : Course D) → ShowsOrder c.order old.dependence → c.passed ≡ place → Notes (used_in thread c (use_at old.state.scene.threads thread)) (Err stop) new.dependence)
+          → ((c : Course D) → Keeps via.search.reduce c.order old.dependence → c.passed ≡ place → Notes via.search.reduce (used_in thread c (use_at old.state.scene.threads thread)) (Err stop) new.dependence)
           → AlongDrawn LeadsOn passes old path (Err stop) new via
       unnoted_drawn thread place says stop new at notes given l =
           access_refused old offered (led_by given path) (led_by given path) (unmarked_by given) (led_by given via) (same_led given path via same) thread
           (λ places. says places (λ e. cc e) given (begins_all (chosen via) given l)) stop new
-          (noted_by old (led_by given path) thread place (Err stop) new.dependence at notes)
+          (noted_by old (led_by given path) (led_by given via) same.0.0 thread place (Err stop) new.dependence at notes)
 
       -- it goes on
       pub thread_drawn : (thread place : ℕ) → DrawsThread (Ok (Some thread)) via → (mid : Progress D) → place ≡ path.position
-          → ((c : Course D) → ShowsOrder c.order old.dependence → c.passed ≡ place → Notes (used_in thread c (use_at old.state.scene.threads thread)) (Ok tt) mid.dependence)
+          → ((c : Course D) → Keeps via.search.reduce c.order old.dependence → c.passed ≡ place → Notes via.search.reduce (used_in thread c (use_at old.state.scene.threads thread)) (Ok tt) mid.dependence)
           → mid.state ≡ old.state → (result : Result (Passed D) Stop) (new : Progress D) (after : Route) → MakesMore via after
           → AlongDrawn LeadsOn (takes_turn thread) mid via result new after → AlongDrawn LeadsOn passes old path result new after
       thread_drawn thread place says mid at notes state result new after more along given l =
           thread_chosen old offered (led_by given path) (led_by given path) (unmarked_by given) (led_by given via) (same_led given path via same) thread
           (λ places. says places (λ e. cc e) given (begins_so (chosen via) (chosen after) given more (passed_begins result after given l))) mid
-          (noted_by old (led_by given path) thread place (Ok tt) mid.dependence at notes) state result new (led_by given after) (along given l)
+          (noted_by old (led_by given path) (led_by given via) same.0.0 thread place (Ok tt) mid.dependence at notes) state result new (led_by given after) (along given l)
 
       -- none can go on
       pub nobody_drawn : DrawsThread (Ok None) via → (result : Result (Turn D) Stop) (new : Progress D) → AlongDrawn Leads closes old via result new via

@@ -41,7 +41,7 @@ use Rattle.loom_objects.specs.declared.rt.dependence.Dependence.{Dependence}
 use Rattle.loom_objects.specs.Rules.Tables.{counted, needs_memory}
 use Rattle.loom_objects.specs.declared.rt.run.RunState.{RunState}
 use Rattle.loom_engine.proofs.Runs.Growth.{made_needs_memory}
-use Rattle.loom_objects.specs.Dependence.Shown.{ShowsOrder}
+use Rattle.loom_objects.specs.Dependence.Shown.{Keeps, ShowsOrder}
 use Rattle.loom_objects.specs.Rules.Uses.{use_at, uses}
 use Rattle.loom_engine.specs.declared.rt.execution.Progress.{Progress}
 use Rattle.loom_engine.specs.Execution.{ExecutionState, Notes, Starts, ShowsCourse, IsMarked, Comes, Along, AllNeedMemory, HappensAt, MayBeRefused, Schedules, Submits, SubmitsAt, itself, may_end, over_after, takes_turn}
@@ -140,6 +140,16 @@ came_so : {A : Type 0} (r : Result A FailureKind) (a : A) → came r ≡ Gives a
 came_so (Ok b) a e = let is : b ≡ a = cc e in ap Ok is
 came_so (Err kind) a e = absurd (cc e)
 
+-- where the search is reduced, the order is kept
+kept_order : (reduce : Bool) (o : Order) (d : Dependence) → reduce ≡ true → Keeps reduce o d → ShowsOrder o d
+kept_order true o d is h = h
+kept_order false o d is h = absurd (cc is)
+
+-- what is kept for a search is kept for the same search
+pub kept_on : (path after : Route) → after.search ≡ path.search → (o : Order) (d new : Dependence) → new ≡ d → Keeps path.search.reduce o d → Keeps after.search.reduce o new
+kept_on path after same o d new kept h =
+    subst (λ (s : Settings). Keeps s.reduce o new) (sym same) (subst (λ (x : Dependence). Keeps path.search.reduce o x) (sym kept) h)
+
 -- what a refusal says
 pub refused_so : {A E P : Type 0} (r : Result A E) → is_err r ≡ true → IfErr r (λ _. P) → P
 refused_so (Ok a) is p = absurd (cc is)
@@ -167,18 +177,18 @@ module _ {D : Type 0} where
   -- ---- one schedule
 
   -- the places are those of the course
-  places_named : (old : Progress D) (path : Route) (named : List (Option Use)) (places : List (Option ℕ))
+  places_named : (old : Progress D) (path : Route) (named : List (Option Use)) (places : List (Option ℕ)) → path.search.reduce ≡ true
       → ((points : Points) (left : ℕ) → named ≡ uses (world_of points left old.state.scene)) → ((o : Order) → ShowsOrder o old.dependence → places ≡ unordered o named)
       → (c : Course D) → ShowsCourse c old path → places ≡ unordered_in c
-  places_named old path named places us ps c shown =
-      ps c.order shown.order ∙ ap (unordered c.order) (us c.world.points old.state.steps_left ∙ ap (λ w. uses w) (sym shown.world.rest))
+  places_named old path named places reduced us ps c shown =
+      ps c.order (kept_order path.search.reduce c.order old.dependence reduced shown.order) ∙ ap (unordered c.order) (us c.world.points old.state.steps_left ∙ ap (λ w. uses w) (sym shown.world.rest))
 
   -- the marks of those places are the schedule's
-  pub marked_at : (old : Progress D) (path mid : Route) (named : List (Option Use)) (places : List (Option ℕ))
+  pub marked_at : (old : Progress D) (path mid : Route) (named : List (Option Use)) (places : List (Option ℕ)) → path.search.reduce ≡ true
       → ((points : Points) (left : ℕ) → named ≡ uses (world_of points left old.state.scene)) → ((o : Order) → ShowsOrder o old.dependence → places ≡ unordered o named)
       → Backtracks path places mid → IsMarked old path mid
-  marked_at old path mid named places us ps marks c shown =
-      subst (λ (p : List (Option ℕ)). Backtracks path p mid) (places_named old path named places us ps c shown) marks
+  marked_at old path mid named places reduced us ps marks c shown =
+      subst (λ (p : List (Option ℕ)). Backtracks path p mid) (places_named old path named places reduced us ps c shown) marks
 
   -- a search that isn't reduced makes none
   pub left_unmarked : (old : Progress D) (path : Route) → path.search.reduce ≡ false → IsMarked old path path
@@ -186,12 +196,12 @@ module _ {D : Type 0} where
       ((λ exploring offers. sym (whole_unmarked path.search (trail path) (which_thread exploring offers (unordered_in c)) whole)), ((refl, refl, refl), refl))
 
   -- what the code notes of the chosen thread's access
-  pub noted_by : (old : Progress D) (path : Route) (t place : ℕ) (result : Result ⊤ Stop) (kept : Dependence) → place ≡ path.position
-      → ((c : Course D) → ShowsOrder c.order old.dependence → c.passed ≡ place → Notes (used_in t c (use_at old.state.scene.threads t)) result kept)
-      → (c : Course D) → ShowsCourse c old path → Notes (used_in t c (use_at c.world.threads t)) result kept
-  noted_by old path t place result kept at notes c shown =
-      subst (λ (w : World D). Notes (used_in t c (use_at w.threads t)) result kept) (sym shown.world.rest)
-      (notes c shown.order (shown.place ∙ sym at))
+  pub noted_by : (old : Progress D) (path after : Route) → after.search ≡ path.search → (t place : ℕ) (result : Result ⊤ Stop) (kept : Dependence) → place ≡ path.position
+      → ((c : Course D) → Keeps after.search.reduce c.order old.dependence → c.passed ≡ place → Notes after.search.reduce (used_in t c (use_at old.state.scene.threads t)) result kept)
+      → (c : Course D) → ShowsCourse c old path → Notes after.search.reduce (used_in t c (use_at c.world.threads t)) result kept
+  noted_by old path after same t place result kept at notes c shown =
+      subst (λ (w : World D). Notes after.search.reduce (used_in t c (use_at w.threads t)) result kept) (sym shown.world.rest)
+      (notes c (kept_on path after same c.order old.dependence old.dependence refl shown.order) (shown.place ∙ sym at))
 
   -- what a schedule asks by the code, when it has made its marks
   pub record IsSchedule (old : Progress D) (offered : Offers) (path mid : Route) : Type 0 where
@@ -238,10 +248,10 @@ module _ {D : Type 0} where
 
       -- the access can't be noted
       pub access_refused : (thread : ℕ) → Chooses (Some thread) → (stop : Stop) (new : Progress D)
-          → ((c : Course D) → ShowsCourse c old path → Notes (used_in thread c (use_at c.world.threads thread)) (Err stop) new.dependence) → Along passes old path (Err stop) new after
+          → ((c : Course D) → ShowsCourse c old path → Notes after.search.reduce (used_in thread c (use_at c.world.threads thread)) (Err stop) new.dependence) → Along passes old path (Err stop) new after
       access_refused thread says stop new notes c shown = by stop (used_in thread c (use_at c.world.threads thread)) (notes c shown) (chosen_on (Some thread) says c shown)
         where
-          by : (stop : Stop) (r : Result Order FailureKind) → Notes r (Err stop) new.dependence → drives (passes c) path ≡ drives (came (with_order c r) >>= goes_by thread) after
+          by : (stop : Stop) (r : Result Order FailureKind) → Notes after.search.reduce r (Err stop) new.dependence → drives (passes c) path ≡ drives (came (with_order c r) >>= goes_by thread) after
               → Comes (passes c) path (Err stop) new after
           by stop (Ok order) h e = absurd (cc h.0)
           by Memory (Err kind) h e = tt
@@ -250,14 +260,14 @@ module _ {D : Type 0} where
               e ∙ ap (λ k. (Err k, trail after)) is
 
       -- it is noted
-      noted : (thread : ℕ) (c : Course D) (r : Result Order FailureKind) (run : Progress D) → Notes r (Ok tt) run.dependence → Shows c.world run.state → suc c.passed ≡ after.position → c.exploring ≡ after.exploring
+      noted : (thread : ℕ) (c : Course D) (r : Result Order FailureKind) (run : Progress D) → Notes after.search.reduce r (Ok tt) run.dependence → Shows c.world run.state → suc c.passed ≡ after.position → c.exploring ≡ after.exploring
           → (v : Course D) × ((came (with_order c r) >>= goes_by thread) ≡ takes_turn thread v) × ShowsCourse v run after
       noted thread c (Ok order) run h w place on = (one_passed (record c { order = order }), refl, record { world = w; order = h.1; place = place; exploring = on })
       noted thread c (Err kind) run h w place on = absurd (cc h)
 
       -- the course on which the thread goes on
       pub chosen_course : (thread : ℕ) → Chooses (Some thread) → (run : Progress D)
-          → ((c : Course D) → ShowsCourse c old path → Notes (used_in thread c (use_at c.world.threads thread)) (Ok tt) run.dependence) → run.state ≡ old.state
+          → ((c : Course D) → ShowsCourse c old path → Notes after.search.reduce (used_in thread c (use_at c.world.threads thread)) (Ok tt) run.dependence) → run.state ≡ old.state
           → (c : Course D) → ShowsCourse c old path → (v : Course D) × ShowsCourse v run after × (drives (passes c) path ≡ drives (takes_turn thread v) after)
       chosen_course thread says run notes state c shown =
           let n = noted thread c (used_in thread c (use_at c.world.threads thread)) run (notes c shown) (subst (λ r. Shows c.world r) (sym state) shown.world)
@@ -266,7 +276,7 @@ module _ {D : Type 0} where
 
       -- and it goes on
       pub thread_chosen : (thread : ℕ) → Chooses (Some thread) → (run : Progress D)
-          → ((c : Course D) → ShowsCourse c old path → Notes (used_in thread c (use_at c.world.threads thread)) (Ok tt) run.dependence) → run.state ≡ old.state
+          → ((c : Course D) → ShowsCourse c old path → Notes after.search.reduce (used_in thread c (use_at c.world.threads thread)) (Ok tt) run.dependence) → run.state ≡ old.state
           → (result : Result (Passed D) Stop) (new : Progress D) (end : Route) → Along (takes_turn thread) run after result new end → Along passes old path result new end
       thread_chosen thread says run notes state result new end along c shown =
           let v = chosen_course thread says run notes state c shown in
@@ -277,7 +287,7 @@ module _ {D : Type 0} where
       nobody_chosen says result new end along c shown =
           same_way (passes c) (closes (one_passed c) >>= turned) path after (passed_with result) new end (chosen_on None says c shown)
           (turned_comes (closes (one_passed c)) after result new end
-          (along (one_passed c) (record { world = shown.world; order = shown.order; place = ap suc shown.place ∙ sym (one_further None says c shown ∙ plus_one path.position); exploring = as_before c shown })))
+          (along (one_passed c) (record { world = shown.world; order = kept_on path after (same.0.0 ∙ s.same.0.0) c.order old.dependence old.dependence refl shown.order; place = ap suc shown.place ∙ sym (one_further None says c shown ∙ plus_one path.position); exploring = as_before c shown })))
 
   -- ---- schedules up to a turn
 
@@ -331,7 +341,7 @@ module _ {D : Type 0} where
   takes_at_once t old new path (Ok passed) does kept c shown =
       let come = does (is_on c.exploring) c.world shown.world in (
         record c { world = come.0 },
-        record { world = come.1; order = subst (λ d. ShowsOrder c.order d) (sym kept) shown.order; place = shown.place; exploring = shown.exploring },
+        record { world = come.1; order = kept_on path path refl c.order old.dependence new.dependence kept shown.order; place = shown.place; exploring = shown.exploring },
         ap (λ (tree : Tree (Passed D × World D)). drives (carried c tree) path) come.2,
       )
   takes_at_once t old new path (Err (Failure failure)) does kept c shown =
@@ -374,7 +384,7 @@ module _ {D : Type 0} where
           record (one_passed c) { world = h.0 },
           record {
             world = h.1;
-            order = subst (λ d. ShowsOrder c.order d) (sym (unchanged ∙ kept)) shown.order;
+            order = kept_on path via same.0.0 c.order old.dependence new.dependence (unchanged ∙ kept) shown.order;
             place = ap suc shown.place ∙ sym (answer_passes path.search (trail path) (which_store (is_on path.exploring) load.readable) (Load slot) (trail via) says ∙ plus_one path.position);
             exploring = shown.exploring ∙ sym same.1;
           },
@@ -417,7 +427,7 @@ module _ {D : Type 0} where
             record (one_passed c) { world = come.0 },
             record {
               world = come.1;
-              order = subst (λ d. ShowsOrder c.order d) (sym kept) shown.order;
+              order = kept_on path via same.0.0 c.order old.dependence mid.dependence kept shown.order;
               place = ap suc shown.place ∙ sym (answer_passes path.search (trail path) (whether_spurious (is_on path.exploring)) (Spurious is_spurious) (trail via) says ∙ plus_one path.position);
               exploring = shown.exploring ∙ sym same.1;
             },
@@ -450,7 +460,7 @@ module _ {D : Type 0} where
           record c { exploring = exploring },
           record {
             world = shown.world;
-            order = shown.order;
+            order = kept_on path after (ap (λ (r : Route). r.search) h.1) c.order run.dependence run.dependence refl shown.order;
             place = shown.place ∙ sym (ap (λ (r : Route). r.position) h.1);
             exploring = sym (ap (λ (r : Route). r.exploring) h.1);
           },
@@ -515,7 +525,7 @@ module _ {D : Type 0} where
         by : (result : Result (Turn D) Stop) → world_comes (ends c.world) result new.state → drives (closes c) path ≡ drives (carried c (ends c.world)) path → Comes (closes c) path result new path
         by (Ok turn) h e = (
           record c { world = h.0 },
-          record { world = h.1; order = subst (λ d. ShowsOrder c.order d) (sym kept) shown.order; place = shown.place; exploring = shown.exploring },
+          record { world = h.1; order = kept_on path path refl c.order old.dependence new.dependence kept shown.order; place = shown.place; exploring = shown.exploring },
           e ∙ ap (λ (tree : Tree (Turn D × World D)). drives (carried c tree) path) h.2,
         )
         by (Err (Failure failure)) h e = e ∙ ap (λ (tree : Tree (Turn D × World D)). drives (carried c tree) path) h
@@ -524,20 +534,20 @@ module _ {D : Type 0} where
   -- ---- one event
 
   -- what the code kept of an operation that was begun, and of what it made
-  pub started : (op : Request D ⊤) (entry : Entry D) (old : Progress D) (state : RunState D) (kept : Dependence) (parent threads objects : ℕ)
+  pub started : (is_ordered : Bool) (op : Request D ⊤) (entry : Entry D) (old : Progress D) (state : RunState D) (kept : Dependence) (parent threads objects : ℕ)
       → ((w : World D) → Shows w old.state → world_comes (begins op w) (Ok entry) state) → parent ≡ old.state.scene.active
       → threads ≡ length state.scene.threads - length old.state.scene.threads → objects ≡ length state.scene.objects - length old.state.scene.objects
-      → ((o : Order) → ShowsOrder o old.dependence → ShowsOrder (grown parent threads objects o) kept) → Starts op old (Ok entry) (record { state = state; dependence = kept })
-  started op entry old state kept parent threads objects does ep et eo grows c shown order =
+      → ((o : Order) → Keeps is_ordered o old.dependence → Keeps is_ordered (grown parent threads objects o) kept) → Starts is_ordered op old (Ok entry) (record { state = state; dependence = kept })
+  started is_ordered op entry old state kept parent threads objects does ep et eo grows c shown order =
       let come = does c.world shown in
       let more = ap₂ (λ (xs ys : List _). length xs - length ys) (ap (λ (w : World D). w.threads) come.1.rest) (ap (λ (w : World D). w.threads) shown.rest) in
       let others = ap₂ (λ (xs ys : List _). length xs - length ys) (ap (λ (w : World D). w.objects) come.1.rest) (ap (λ (w : World D). w.objects) shown.rest) in (
         come.0,
         come.2,
         come.1,
-        subst (λ p. ShowsOrder (grown p (length come.0.threads - length c.world.threads) (length come.0.objects - length c.world.objects) c.order) kept) (ep ∙ sym (ap (λ (w : World D). w.active) shown.rest))
-            (subst (λ t. ShowsOrder (grown parent t (length come.0.objects - length c.world.objects) c.order) kept) (et ∙ sym more)
-            (subst (λ o. ShowsOrder (grown parent threads o c.order) kept) (eo ∙ sym others) (grows c.order order))),
+        subst (λ p. Keeps is_ordered (grown p (length come.0.threads - length c.world.threads) (length come.0.objects - length c.world.objects) c.order) kept) (ep ∙ sym (ap (λ (w : World D). w.active) shown.rest))
+            (subst (λ t. Keeps is_ordered (grown parent t (length come.0.objects - length c.world.objects) c.order) kept) (et ∙ sym more)
+            (subst (λ o. Keeps is_ordered (grown parent threads o c.order) kept) (eo ∙ sym others) (grows c.order order))),
       )
 
   -- memory was refused for it
@@ -553,7 +563,7 @@ module _ {D : Type 0} where
   start_refused op (Err stop) old state threads objects is does et eo more w shown = absurd (cc is)
 
   -- what a course comes to with what an operation made
-  pub started_course : (op : Request D ⊤) (entry : Entry D) (old mid : Progress D) (path : Route) → Starts op old (Ok entry) mid → (c : Course D) → ShowsCourse c old path
+  pub started_course : (op : Request D ⊤) (entry : Entry D) (old mid : Progress D) (path : Route) → Starts path.search.reduce op old (Ok entry) mid → (c : Course D) → ShowsCourse c old path
       → (v : Course D) × ShowsCourse v mid path × (drives (submit op c) path ≡ drives (goes_on (entry, v)) path)
   started_course op entry old mid path starts c shown =
       let come = starts c shown.world shown.order in (
@@ -563,13 +573,13 @@ module _ {D : Type 0} where
       )
 
   module _ (op : Request D ⊤) (old mid : Progress D) (path : Route) where
-    pub start_stops : (stop : Stop) → Starts op old (Err stop) mid → Along (submit op) old path (Err stop) mid path
+    pub start_stops : (stop : Stop) → Starts path.search.reduce op old (Err stop) mid → Along (submit op) old path (Err stop) mid path
     start_stops (Failure failure) starts c shown =
         ap (λ (tree : Tree (Entry D × World D)). drives (carried c tree >>= (λ started. goes_on (started.0, grown_from c.world started.1))) path)
         (starts c shown.world shown.order)
     start_stops Memory starts c shown = tt
 
-    pub answered_at_once : (answer : Reply D) (active : ℕ) → active ≡ mid.state.scene.active → Starts op old (Ok (Answered answer)) mid
+    pub answered_at_once : (answer : Reply D) (active : ℕ) → active ≡ mid.state.scene.active → Starts path.search.reduce op old (Ok (Answered answer)) mid
         → Along (submit op) old path (Ok (turn.Reply active answer)) mid path
     answered_at_once answer active is starts c shown =
         let v = started_course op (Answered answer) old mid path starts c shown in (
@@ -578,7 +588,7 @@ module _ {D : Type 0} where
           v.2 ∙ ap (λ (t : ℕ). (Ok (turn.Reply t answer, v.0), trail path)) (ap (λ (w : World D). w.active) v.1.world.rest ∙ sym is),
         )
 
-    pub started_on : (entry : Entry D) (next : Course D → Tree (Turn D × Course D)) → ((v : Course D) → goes_on (entry, v) ≡ next v) → Starts op old (Ok entry) mid
+    pub started_on : (entry : Entry D) (next : Course D → Tree (Turn D × Course D)) → ((v : Course D) → goes_on (entry, v) ≡ next v) → Starts path.search.reduce op old (Ok entry) mid
         → (result : Result (Turn D) Stop) (new : Progress D) (after : Route) → Along next mid path result new after → Along (submit op) old path result new after
     started_on entry next is starts result new after onward c shown =
         let v = started_course op entry old mid path starts c shown in

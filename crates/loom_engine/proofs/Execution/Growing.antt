@@ -183,7 +183,7 @@ module _ {D : Type 0} where
 
     -- the thread that was chosen needs memory as it goes on
     pub thread_needs : (thread : ℕ) (after : Route) (same : IsSame mid after) → Chooses old offered path mid s after same (Some thread) → (run : Progress D)
-        → ((c : Course D) → ShowsCourse c old path → Notes (used_in thread c (use_at c.world.threads thread)) (Ok tt) run.dependence) → run.state ≡ old.state
+        → ((c : Course D) → ShowsCourse c old path → Notes after.search.reduce (used_in thread c (use_at c.world.threads thread)) (Ok tt) run.dependence) → run.state ≡ old.state
         → AllNeedMemory passed.Turn (takes_turn thread) run after → AllNeedMemory passed.Turn passes old path
     thread_needs thread after same says run notes state needs c shown =
         let v = chosen_course old offered path mid s after same thread says run notes state c shown in
@@ -279,7 +279,7 @@ module _ {D : Type 0} where
       (after_answer path path via (whether_spurious (is_on path.exploring)) (Spurious is_spurious) (unmarked_wait n old path) says) (needs v.0 v.1)
 
   pub event_needs : (op : Request D ⊤) (entry : Entry D) (next : Course D → Tree (Turn D × Course D)) (old mid : Progress D) (path : Route) → ((v : Course D) → goes_on (entry, v) ≡ next v)
-      → Starts op old (Ok entry) mid → AllNeedMemory itself next mid path → AllNeedMemory itself (submit op) old path
+      → Starts path.search.reduce op old (Ok entry) mid → AllNeedMemory itself next mid path → AllNeedMemory itself (submit op) old path
   event_needs op entry next old mid path is starts needs c shown =
       let v = started_course op entry old mid path starts c shown in
       needed_on itself (submit op c) (next v.0) path path (v.2 ∙ ap (λ (t : Tree (Turn D × Course D)). drives t path) (is v.0)) (omega arith) (needs v.0 v.1)

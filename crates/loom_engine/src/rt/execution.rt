@@ -13,7 +13,7 @@ ghost use Rattle.loom_engine.specs.Execution.{may_end, over_after, Notes, ShowsC
 ghost use Rattle.std.specs.List.{Contains};
 ghost use Rattle.loom_objects.specs.declared.choice.Choice.{Choice};
 ghost use Rattle.loom_engine.specs.Runs.Course.{Course, opening, used_in};
-ghost use Rattle.loom_objects.specs.Dependence.Shown.{ShowsOrder};
+ghost use Rattle.loom_objects.specs.Dependence.Shown.{Keeps};
 ghost use Rattle.loom_objects.specs.Rules.Tables.{needs_memory};
 ghost use Rattle.loom_objects.specs.Exploring.{is_on};
 ghost use Rattle.loom_objects.specs.Scene.Shown.{Shows};
@@ -235,7 +235,7 @@ fn hand_over<D: Data>(
     ensures steps { OnOk result (run.old.state.steps_left ≡ run.new.state.steps_left + 1) }
     ensures same { IsSameSearch path.old path.new }
 {
-    match start(run, op) {
+    match start(run, path, op) {
         Err(stop) => Err(stop),
         Ok(Entry::Answered(reply)) => Ok(Turn::Reply(run.state.scene.active(), reply)),
         Ok(Entry::AtBranch) => schedule(run, path, FURTHER_BRANCHES),
@@ -254,7 +254,7 @@ fn enter<D: Data>(
     ensures steps { OnOk result (run.old.state.steps_left ≡ run.new.state.steps_left + 1) }
     ensures same { IsSameSearch path.old path.new }
 {
-    match start(run, op) {
+    match start(run, path, op) {
         Err(stop) => Err(stop),
         Ok(Entry::Answered(reply)) => Ok(Begun::Turn(Turn::Reply(run.state.scene.active(), reply))),
         Ok(Entry::AtBranch) => Ok(Begun::AtBranch),
@@ -282,10 +282,10 @@ fn wake<D: Data>(run: &mut Progress<D>, path: &mut Path, notifier: usize) -> Res
 }
 
 /// What the operation does up to its branch point. There are no accesses yet to the objects that it makes, and a thread that it
-/// makes comes after what its parent comes after.
+/// makes comes after what its parent comes after. Their order is kept where the search is reduced, and else the counts alone.
 #[inline(always)]
-fn start<D: Data>(run: &mut Progress<D>, op: Request<D, ()>) -> Result<Entry<D>, Stop>
-    ensures starts { Starts op run.old result run.new }
+fn start<D: Data>(run: &mut Progress<D>, path: &Path, op: Request<D, ()>) -> Result<Entry<D>, Stop>
+    ensures starts { Starts path.now.search.reduce op run.old result run.new }
     ensures growth { result ≡ Err Stop.Memory → (w : World D) → Shows w run.old.state → needs_memory op ≡ true }
     ensures steps { OnOk result (run.old.state.steps_left ≡ run.new.state.steps_left + 1) }
 {
@@ -296,7 +296,11 @@ fn start<D: Data>(run: &mut Progress<D>, op: Request<D, ()>) -> Result<Entry<D>,
     if answer.is_ok() {
         let threads = run.state.scene.thread_count().saturating_sub(threads);
         let objects = run.state.scene.object_count().saturating_sub(objects);
-        if run.dependence.grow(parent, threads, objects).is_err() {
+        if run
+            .dependence
+            .grow(path.is_reduced(), parent, threads, objects)
+            .is_err()
+        {
             return Err(Stop::Memory);
         }
     }
@@ -384,7 +388,7 @@ fn pass<D: Data>(run: &mut Progress<D>, path: &mut Path) -> Result<Passed<D>, St
     mark(run, path);
     match path.branch_thread(&run.state.scene.offers()) {
         Err(stop) => Err(stop),
-        Ok(Some(thread)) => match access(run, thread, place) {
+        Ok(Some(thread)) => match access(run, path, thread, place) {
             Err(stop) => Err(stop),
             Ok(()) => take_turn(run, path, thread),
         },
@@ -408,6 +412,7 @@ fn mark<D: Data>(run: &Progress<D>, path: &mut Path)
 
 /// Marks are made for the last accesses that what is pending depends on and isn't ordered after.
 fn mark_unordered<D: Data>(run: &Progress<D>, path: &mut Path)
+    requires { path.old.search.reduce ≡ true }
     ensures marks { IsMarked run.now path.old path.new }
     ensures same { IsSame path.old path.new }
 {
@@ -425,17 +430,18 @@ fn use_by<D: Data>(run: &Progress<D>, thread: u8) -> Option<Use>
     }
 }
 
-/// What the thread is about to do, chosen at this place, is an access, unless it is on no object.
-fn access<D: Data>(run: &mut Progress<D>, thread: u8, place: usize) -> Result<(), Stop>
+/// What the thread is about to do, chosen at this place, is an access, unless it is on no object. Where the search isn't reduced no
+/// mark is made of it, so that it is counted alone.
+fn access<D: Data>(run: &mut Progress<D>, path: &Path, thread: u8, place: usize) -> Result<(), Stop>
     requires { thread < 5 }
-    ensures notes { (c : Course D) → ShowsOrder c.order run.old.dependence → c.passed ≡ place → Notes (used_in thread c (use_at run.old.state.scene.threads thread)) result run.new.dependence }
+    ensures notes { (c : Course D) → Keeps path.now.search.reduce c.order run.old.dependence → c.passed ≡ place → Notes path.now.search.reduce (used_in thread c (use_at run.old.state.scene.threads thread)) result run.new.dependence }
     ensures state { run.new.state ≡ run.old.state }
     ensures no_growth { result ≢ Err Stop.Memory }
 {
     match use_by(run, thread) {
         Some(used) => run
             .dependence
-            .record(thread as usize, used, place)
+            .record(path.is_reduced(), thread as usize, used, place)
             .map_err(failed),
         None => Ok(()),
     }

@@ -364,8 +364,9 @@ impl Path {
         let exploring = self.is_exploring();
         if self.nodes.position < self.nodes.list.len() {
             return match self.nodes.stored_schedule(exploring, offers) {
+                // The choice is read in the node's word, so that no status is taken out of it.
                 Ok(schedule) => {
-                    let chosen = schedule.active();
+                    let chosen = self.nodes.list.active(self.nodes.position);
                     self.pass(&schedule, chosen);
                     Ok(chosen)
                 }

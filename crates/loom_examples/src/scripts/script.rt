@@ -216,6 +216,14 @@ impl Body for Script {
     {
         self.beside(*self.state)
     }
+
+    fn restart(&mut self, start: &Script) -> Result<(), AllocError>
+        ensures { IfOk result (λ _. self.new ≡ start.now) }
+    {
+        self.program = Arc::try_clone(&start.program)?;
+        *self.state = *start.state;
+        Ok(())
+    }
 }
 
 impl Apart for Script {

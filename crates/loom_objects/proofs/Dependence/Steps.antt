@@ -19,7 +19,7 @@ use Rattle.loom_objects.specs.declared.rt.dependence.Use.{Use}
 use Rattle.loom_objects.specs.declared.rt.access.LastAccess.{LastAccess}
 use Rattle.loom_objects.specs.declared.rt.access.LastAccesses.{LastAccesses}
 use Rattle.loom_objects.specs.Dependence.Order.{Order, Access, depends_on, last_dependent, accesses_to, last_before, after_access, after_use}
-use Rattle.loom_objects.specs.Dependence.Shown.{ShowsThreadAt, ShowsLast, ShowsObject, ShowsOrder, OrdersAs, nothing, slot_of, joined_last}
+use Rattle.loom_objects.specs.Dependence.Shown.{ShowsThreadAt, ShowsLast, ShowsObject, ShowsOrder, KeepsAs, nothing, slot_of, joined_last}
 use Rattle.loom_objects.proofs.Dependence.Grown.{last-grown, thread-grown, raising-grown, object-grown, object-nothing}
 
 -- a thread that is there
@@ -139,7 +139,7 @@ module _ (o : Order) (d : Dependence) (t : ℕ) (used : Use) (place : ℕ) (own 
   moved-by : (f : FoundThread o t own) → Moved t o.graph (after_access o.graph f.own (last_before o used)).0 (after_access o.graph f.own (last_before o used)).1 joined
   moved-by f = rw is (joined-moved t o.graph f.own own z.chained f.present f.shown (last_before o used) (slot_of used.action (get_or d.last used.object nothing)) ((z.objects used.object).last used.action))
 
-  pub use-moved : (new : Dependence) (raised_view : List ℕ) → raised_view ≡ raised_at joined t → get_or joined t 0 < 65534 → Noted d new t used raised_view (record { view = raised_view; place = place }) → OrdersAs (after_use t used place o) (Ok tt) new
+  pub use-moved : (new : Dependence) (raised_view : List ℕ) → raised_view ≡ raised_at joined t → get_or joined t 0 < 65534 → Noted d new t used raised_view (record { view = raised_view; place = place }) → KeepsAs true (after_use t used place o) (Ok tt) new
   use-moved new raised_view r l k =
       let f = found_thread o d t own kept z in
       let to = after_access o.graph f.own (last_before o used) in
@@ -147,7 +147,7 @@ module _ (o : Order) (d : Dependence) (t : ℕ) (used : Use) (place : ℕ) (own 
       let e : nat_lt (length (raised to.0 t)) 65534 ≡ true = lt-ltb (length (raised to.0 t)) 65534 (subst (λ n. n < 65534) (own-version to.0 t to.1 joined five m.present m.shown) l) in
       rw (f.is, e) (refl, raised-shown o d new t used place to.0 to.1 joined five (slice_get_within d.threads t own kept) z m (subst (λ v. Noted d new t used v (record { view = v; place = place })) r k))
 
-  pub use-full : (new : Dependence) → get_or joined t 0 ≡ 65534 → OrdersAs (after_use t used place o) (Err TooManyVersions) new
+  pub use-full : (new : Dependence) → get_or joined t 0 ≡ 65534 → KeepsAs true (after_use t used place o) (Err TooManyVersions) new
   use-full new l =
       let f = found_thread o d t own kept z in
       let to = after_access o.graph f.own (last_before o used) in
@@ -157,5 +157,5 @@ module _ (o : Order) (d : Dependence) (t : ℕ) (used : Use) (place : ℕ) (own 
       rw (f.is, e) refl
 
 -- a thread that isn't there
-pub use-misused : (o : Order) (d new : Dependence) (t : ℕ) (used : Use) (place : ℕ) → length d.threads ≤ t → ShowsOrder o d → OrdersAs (after_use t used place o) (Err Misuse) new
+pub use-misused : (o : Order) (d new : Dependence) (t : ℕ) (used : Use) (place : ℕ) → length d.threads ≤ t → ShowsOrder o d → KeepsAs true (after_use t used place o) (Err Misuse) new
 use-misused o d new t used place l z = rw (no_thread o d t l z) refl

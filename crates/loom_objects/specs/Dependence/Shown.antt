@@ -1,5 +1,5 @@
 -- What is kept of accesses shows the order: vectors count the points that raise.
-use Rattle.std.specs.Prelude.{ℕ, ◌≡◌, IsTrue, List, [], length, slice_get, slice_index_or, Option, Some, None, Result, Ok, Err}
+use Rattle.std.specs.Prelude.{ℕ, ◌≡◌, Bool, true, false, IsTrue, List, [], length, slice_get, slice_index, slice_index_or, Option, Some, None, Result, Ok, Err}
 use Rattle.std.specs.List.{AllByRecursion}
 use Rattle.loom_views.specs.declared.rt.failure.FailureKind.{FailureKind}
 use Rattle.loom_views.specs.Graph.{Graph, raised, Shows, IsChained, IsPresent}
@@ -68,7 +68,24 @@ pub record ShowsOrder (order : Order) (d : Dependence) : Type 0 where
   pub made : length order.accesses ≡ length d.last
   pub objects : (n : ℕ) → ShowsObject order.graph (accesses_to order n) (slice_index_or d.last n nothing)
 
--- an access answers as its rule does, and what is kept shows the order that it leads to
-abbrev pub OrdersAs : Result Order FailureKind → Result (Unit {0}) FailureKind → Dependence → Type 0
-OrdersAs (Ok order) result d = (result ≡ Ok tt) × ShowsOrder order d
-OrdersAs (Err kind) result d = result ≡ Err kind
+-- a thread's vector counts how often it has raised; one that isn't there has raised nothing
+abbrev pub CountsThreadAt : Graph → ℕ → Option ℕ → Option (List ℕ) → Type 0
+CountsThreadAt g t None None = raised g t ≡ []
+CountsThreadAt g t None (Some view) = ⊥
+CountsThreadAt g t (Some own) None = ⊥
+CountsThreadAt g t (Some own) (Some view) = (length view ≡ 5) × (slice_index view t ≡ length (raised g t))
+
+-- what is kept of a run's accesses tells how often each thread has made one, and no order
+pub record CountsOrder (order : Order) (d : Dependence) : Type 0 where
+  pub count : length order.threads ≡ length d.threads
+  pub threads : (t : ℕ) → CountsThreadAt order.graph t (slice_get order.threads t) (slice_get d.threads t)
+
+-- the order is kept where it will be asked for, and else the counts alone
+abbrev pub Keeps : Bool → Order → Dependence → Type 0
+Keeps true order d = ShowsOrder order d
+Keeps false order d = CountsOrder order d
+
+-- an access answers as its rule does, and what is kept shows the order that it leads to, or counts
+abbrev pub KeepsAs : Bool → Result Order FailureKind → Result (Unit {0}) FailureKind → Dependence → Type 0
+KeepsAs is_ordered (Ok order) result d = (result ≡ Ok tt) × Keeps is_ordered order d
+KeepsAs is_ordered (Err kind) result d = result ≡ Err kind

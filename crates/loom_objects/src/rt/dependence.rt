@@ -1,9 +1,9 @@
 //! The last accesses to each object, and what each thread is ordered after (loom's `rt/object.rs`, `rt/execution.rs`).
 
-ghost use Rattle.std.specs.Prelude.{◌≡◌, ◌≢◌, ℕ, ◌+◌, ◌<◌, ◌++◌, cond, length, slice_get, slice_index_or, IfOk, IfErr, OnOk, OnErr, Some};
+ghost use Rattle.std.specs.Prelude.{◌≡◌, ◌≢◌, Bool, false, true, ℕ, ◌+◌, ◌<◌, ◌++◌, cond, length, slice_get, slice_index_or, IfOk, IfErr, OnOk, OnErr, Some};
 ghost use Rattle.loom_objects.specs.declared.rt.dependence.Action.{Action};
 ghost use Rattle.loom_objects.specs.Dependence.Order.{Order, opening, copies, grown, depends_on, unordered_by, unordered, after_use};
-ghost use Rattle.loom_objects.specs.Dependence.Shown.{ShowsOrder, OrdersAs, nothing, slot_of, joined_last, copies_of};
+ghost use Rattle.loom_objects.specs.Dependence.Shown.{CountsOrder, Keeps, KeepsAs, ShowsOrder, nothing, slot_of, joined_last, copies_of};
 
 use crate::rt::access::{LastAccess, LastAccesses};
 use loom_views::rt::MAX_THREADS;
@@ -53,7 +53,7 @@ pub struct Dependence {
 impl Dependence {
     /// Main alone, and no object. An error where memory for main's vector is refused (loom's `rt/execution.rs`).
     pub fn new(alloc: Global) -> Result<Dependence, AllocError>
-        ensures { IfOk result (ShowsOrder opening) }
+        ensures { IfOk result (λ dependence. (is_ordered : Bool) → Keeps is_ordered opening dependence) }
     {
         let mut threads = Sequence::new(alloc);
         threads.push(VersionVec::new())?;
@@ -65,7 +65,7 @@ impl Dependence {
 
     /// Main alone again, and no object. The room for them stays. An error where memory for main's vector is refused (own).
     pub fn restart(&mut self) -> Result<(), AllocError>
-        ensures { IfOk result (λ _. ShowsOrder opening self.new) }
+        ensures { IfOk result (λ _. (is_ordered : Bool) → Keeps is_ordered opening self.new) }
     {
         self.threads.clear();
         self.threads.push(VersionVec::new())?;
@@ -80,16 +80,60 @@ impl Dependence {
         self.threads.len()
     }
 
-    /// So many threads more, which begin where the parent is, and so many objects more. An error only where some are made and
-    /// memory for them is refused (loom's `rt/execution.rs` and `rt/object.rs`).
+    /// So many threads more, which begin where the parent is, and so many objects more; the order is kept, or the counts alone. An
+    /// error only where some are made and memory for them is refused (loom's `rt/execution.rs` and `rt/object.rs`).
     // Inlined: it is called at each operation, and few make anything.
     #[inline(always)]
-    pub fn grow(&mut self, parent: usize, threads: usize, objects: usize) -> Result<(), AllocError>
+    pub fn grow(
+        &mut self,
+        is_ordered: bool,
+        parent: usize,
+        threads: usize,
+        objects: usize,
+    ) -> Result<(), AllocError>
+        ensures grown { (o : Order) → Keeps is_ordered o self.old → IfOk result (λ _. Keeps is_ordered (grown parent threads objects o) self.new) }
+        ensures growth { IfErr result (λ _. 0 < threads + objects) }
+    {
+        if threads == 0 && objects == 0 {
+            return Ok(());
+        }
+        if is_ordered {
+            self.grow_order(parent, threads, objects)
+        } else {
+            self.grow_counts(parent, threads)
+        }
+    }
+
+    /// So many threads more, which begin where the parent is, and so many objects more. An error only where some are made and
+    /// memory for them is refused.
+    #[inline(always)]
+    fn grow_order(
+        &mut self,
+        parent: usize,
+        threads: usize,
+        objects: usize,
+    ) -> Result<(), AllocError>
         ensures grown { (o : Order) → ShowsOrder o self.old → IfOk result (λ _. ShowsOrder (grown parent threads objects o) self.new) }
         ensures growth { IfErr result (λ _. 0 < threads + objects) }
     {
         self.add_threads(parent, threads)?;
         self.add_objects(objects)
+    }
+
+    /// So many threads more, which have made no access, if the parent is there. An error only where some are made and memory for
+    /// them is refused.
+    #[inline(always)]
+    fn grow_counts(&mut self, parent: usize, threads: usize) -> Result<(), AllocError>
+        ensures grown { (o : Order) → (objects : ℕ) → CountsOrder o self.old → IfOk result (λ _. CountsOrder (grown parent threads objects o) self.new) }
+        ensures growth { IfErr result (λ _. 0 < threads) }
+    {
+        if threads == 0 {
+            return Ok(());
+        }
+        if parent >= self.threads.len() {
+            return Ok(());
+        }
+        append_copies(&mut self.threads, VersionVec::new(), threads)
     }
 
     /// So many threads more, which begin where the parent is, if it is there. An error where memory is refused.
@@ -154,12 +198,31 @@ impl Dependence {
     }
 
     /// A thread is chosen by the schedule at this place, and uses an object: it comes after the last access that this depends
-    /// on. `TooManyVersions` where it has done so 65,534 times, `Misuse` where there is no such thread (loom's `schedule` of
-    /// `rt/execution.rs`; the limit is own).
+    /// on. The order is kept, or the counts alone. `TooManyVersions` where the thread has done so 65,534 times, `Misuse` where there
+    /// is no such thread (loom's `schedule` of `rt/execution.rs`; the limit is own).
     #[inline(always)]
-    pub fn record(&mut self, thread: usize, used: Use, place: usize) -> Result<(), FailureKind>
+    pub fn record(
+        &mut self,
+        is_ordered: bool,
+        thread: usize,
+        used: Use,
+        place: usize,
+    ) -> Result<(), FailureKind>
         requires { thread < 5 }
-        ensures { (o : Order) → ShowsOrder o self.old → OrdersAs (after_use thread used place o) result self.new }
+        ensures { (o : Order) → Keeps is_ordered o self.old → KeepsAs is_ordered (after_use thread used place o) result self.new }
+    {
+        if is_ordered {
+            self.record_order(thread, used, place)
+        } else {
+            self.count(thread)
+        }
+    }
+
+    /// A thread comes after the last access that this use depends on, and raises.
+    #[inline(always)]
+    fn record_order(&mut self, thread: usize, used: Use, place: usize) -> Result<(), FailureKind>
+        requires { thread < 5 }
+        ensures { (o : Order) → ShowsOrder o self.old → KeepsAs true (after_use thread used place o) result self.new }
     {
         if thread >= self.threads.len() {
             return Err(FailureKind::Misuse);
@@ -170,6 +233,23 @@ impl Dependence {
         }
         *self.threads.at_mut(thread) = view;
         self.note(used, LastAccess { view, place });
+        Ok(())
+    }
+
+    /// A thread raises.
+    #[inline(always)]
+    fn count(&mut self, thread: usize) -> Result<(), FailureKind>
+        requires { thread < 5 }
+        ensures { (o : Order) → (used : Use) → (place : ℕ) → CountsOrder o self.old → KeepsAs false (after_use thread used place o) result self.new }
+    {
+        if thread >= self.threads.len() {
+            return Err(FailureKind::Misuse);
+        }
+        let mut view = *self.threads.at(thread);
+        if !view.inc(thread) {
+            return Err(FailureKind::TooManyVersions);
+        }
+        *self.threads.at_mut(thread) = view;
         Ok(())
     }
 

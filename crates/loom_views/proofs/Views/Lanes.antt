@@ -3,12 +3,12 @@ use Rattle.std.proofs.Common.{zero, suc, ◌≡◌, ℕ, ◌+◌, ◌*◌, ◌/�
 use Rattle.std.specs.Prelude.{◌≢◌, IsTrue, MatchOption}
 use Rattle.std.specs.Int.{bit_at, trailing_zeros}
 use Rattle.std.proofs.Math.Nat.{div-div-eq-div-mul, div-eq_of_lt, zero-div, pow-zero}
-use Rattle.std.proofs.lemmas.Bool.{cases_lt, cases_eq, cond_both, ltb-true, ltb-false}
+use Rattle.std.proofs.lemmas.Bool.{cases_lt, cases_eq, cond_both, lt-ltb, ltb-true, ltb-false}
 use Rattle.std.proofs.lemmas.Nat.Bits.{bit_at-trailing_zeros, bit_at-zero}
 use Rattle.std.proofs.lemmas.Simd.{tops_compared, mask_l-mod, bit_mask_l, length-zip2}
 use lib.Lanes.{Each1, zip2, number_l, digits_l, mask_l, sel_l, top}
 use mir.Syntax.{w64}
-use Rattle.loom_views.specs.Lanes.{lane, lanes_in, word_of, counts_in, IsLaidOut, IsFirstLarger}
+use Rattle.loom_views.specs.Lanes.{lane, lanes_in, word_of, counts_in, AreLarger, IsLaidOut, IsFirstLarger}
 use Rattle.loom_views.specs.Versions.{IsCounted, join, within, IsFirstAhead}
 use Rattle.loom_views.proofs.Views.VersionLists.{within-from_places}
 
@@ -202,6 +202,32 @@ some_larger word other xs ys m h k e d is pos few =
       larger = omega (arith, at z, bt z, above);
       first = λ i l. lower word other xs ys i long (at i) (bt i) (bit i ∙ b.2 i l);
     }
+
+-- each lane is larger just where all eight bits are one
+ones : (t : ℕ) → t < 8 → bit_at 255 t ≡ 1
+ones zero l = refl
+ones (suc zero) l = refl
+ones (suc (suc zero)) l = refl
+ones (suc (suc (suc zero))) l = refl
+ones (suc (suc (suc (suc zero)))) l = refl
+ones (suc (suc (suc (suc (suc zero))))) l = refl
+ones (suc (suc (suc (suc (suc (suc zero)))))) l = refl
+ones (suc (suc (suc (suc (suc (suc (suc zero))))))) l = refl
+ones (suc (suc (suc (suc (suc (suc (suc (suc t)))))))) l = absurd (omega arith)
+
+pub all_flags : (word other : ℕ) (xs ys : List ℕ) → word < 2 ^ 128 → other < 2 ^ 128 → xs ≡ lanes_in word → ys ≡ lanes_in other → flags xs ys ≡ 255 → AreLarger word other
+all_flags word other xs ys h k e d is t l =
+    let at = listed word xs h e t in
+    let bt = listed other ys k d t in
+    let above = ltb-true (get_or xs t 0) (get_or ys t 0) (flag-true _ (sym (bit_at-flags xs ys t (ap length e ∙ sym (ap length d))) ∙ ap (λ n. bit_at n t) is ∙ ones t l)) in
+    omega (arith, at, bt, above)
+
+pub flags_all : (word other : ℕ) (xs ys : List ℕ) → xs ≡ lanes_in word → ys ≡ lanes_in other → AreLarger word other → flags xs ys ≡ 255
+flags_all word other xs ys e d larger =
+    let at = λ (t : ℕ) (l : t < 8). lt-ltb (lane word t) (lane other t) (larger t l) in
+    let all : zip2 ltb (lanes_in word) (lanes_in other) ≡ true ∷ true ∷ true ∷ true ∷ true ∷ true ∷ true ∷ true ∷ [] =
+    λ i. at 0 (omega arith) i ∷ at 1 (omega arith) i ∷ at 2 (omega arith) i ∷ at 3 (omega arith) i ∷ at 4 (omega arith) i ∷ at 5 (omega arith) i ∷ at 6 (omega arith) i ∷ at 7 (omega arith) i ∷ [] in
+    ap₂ (λ us vs. flags us vs) e d ∙ ap mask_l all
 
 -- ---- a word as five counts
 

@@ -4,10 +4,11 @@
 //! history by points. Slots are numbered from 0: the store with number `n` is kept in slot `n` modulo `MAX_ATOMIC_HISTORY`.
 //! The thread has raised its version before the call. Where a call fails, the atomic and the thread's views are as before.
 pub mod reader;
+pub mod touches;
 
 ghost use Rattle.std.specs.Prelude.{◌≡◌, ℕ, ◌+◌, ◌<◌, ◌≤◌, ◌==◌, ◌&&◌, not, min, IsTrue, None, slice_index_or, false, MatchResult, OnErr, Ok, Err, length};
 ghost use Rattle.std.specs.List.{list_any};
-ghost use Rattle.loom_views.specs.Limits.{most_stores};
+ghost use Rattle.loom_views.specs.Limits.{highest_version, most_stores};
 ghost use Rattle.loom_views.specs.Versions.{join, join_all};
 ghost use Rattle.loom_views.specs.Atomic.Untouched.{untouched};
 ghost use Rattle.loom_views.specs.declared.rt.failure.FailureKind.TheVariants.{OrdersEqual, TooManyStores};
@@ -20,18 +21,19 @@ ghost use Rattle.loom_views.specs.Atomic.History.{in_slot, Scene, readable, fail
 ghost use Rattle.loom_views.specs.declared.rt.atomic.reader.Reader.{Reader};
 ghost use Rattle.loom_views.specs.Atomic.Shown.{ShowsScene, AnswersAs, FinishesAs};
 
+use crate::rt::MAX_ATOMIC_HISTORY;
 pub use crate::rt::atomic::reader::Reader;
+use crate::rt::atomic::touches::Touches;
 use crate::rt::failure::FailureKind;
 use crate::rt::synchronize::{Synchronize, ThreadViews};
 use crate::rt::vv::{VersionVec, mixed};
-use crate::rt::{MAX_ATOMIC_HISTORY, MAX_THREADS};
 use crate::same::{Same, are_same};
 use std::sync::atomic::Ordering;
 
 /// For each thread, its own version when it first touched a store (loom's `rt/atomic.rs`).
 #[derive(Clone, Copy)]
 pub struct FirstSeen {
-    versions: [Option<u16>; MAX_THREADS],
+    versions: Touches,
 }
 
 /// A store that is kept (loom's `rt/atomic.rs`).
@@ -63,17 +65,18 @@ impl FirstSeen {
         ensures { result.versions ≡ untouched }
     {
         FirstSeen {
-            versions: [None; MAX_THREADS],
+            versions: Touches::new(),
         }
     }
 
     /// Records the version where the thread hasn't touched the store before.
     fn touch(&mut self, thread: usize, version: u16)
-        requires { thread < 5 }
+        requires thread_in { thread < 5 }
+        requires counted { version ≤ highest_version }
         ensures { self.new.versions ≡ touch_version self.old.versions thread version }
     {
-        if self.versions[thread].is_none() {
-            self.versions[thread] = Some(version);
+        if self.versions.at(thread).is_none() {
+            self.versions.set(thread, version);
         }
     }
 
@@ -81,15 +84,7 @@ impl FirstSeen {
     fn is_seen_from(&self, view: &VersionVec) -> bool
         ensures { result ≡ is_touch_in self.now.versions view.now }
     {
-        let versions = view.versions();
-        for t in 0..MAX_THREADS {
-            if let Some(version) = self.versions[t] {
-                if version <= versions[t] {
-                    return true;
-                }
-            }
-        }
-        false
+        self.versions.is_one_in(view)
     }
 
     /// Whether the thread touched the store at or before its last yield.
@@ -97,7 +92,7 @@ impl FirstSeen {
         requires { thread < 5 }
         ensures { result ≡ is_version_before (slice_index_or self.now.versions thread None) last_yield }
     {
-        match (self.versions[thread], last_yield) {
+        match (self.versions.at(thread), last_yield) {
             (Some(version), Some(at)) => version <= at,
             _ => false,
         }
@@ -579,7 +574,7 @@ impl State {
 
 impl Same for FirstSeen {
     fn is_same(&self, other: &FirstSeen) -> bool {
-        are_same(self.versions.as_slice(), other.versions.as_slice())
+        self.versions.is_same(&other.versions)
     }
 }
 

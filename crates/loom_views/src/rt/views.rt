@@ -4,10 +4,10 @@
 //! nothing, and one that answers something answers `Misuse`. Source: loom's `rt/execution.rs` and `rt/object.rs`, where each
 //! thread and each object keeps its own.
 
+pub mod places;
+
 ghost use Rattle.std.specs.Prelude.{◌≡◌, ◌++◌, ◌∷◌, ◌<◌, ◌≤◌, [], Ok, Err, IfOk, OnErr, OnOk, length, slice_get};
 ghost use Rattle.loom_views.specs.declared.rt.failure.FailureKind.TheVariants.{Misuse};
-ghost use Rattle.loom_views.specs.declared.rt.views.Kept.TheVariants.{Point};
-ghost use Rattle.loom_views.specs.Versions.{zeros};
 ghost use Rattle.loom_views.specs.Views.{Points, ShowsViews, MovesAs, LoadsAs, StoresAs, OffersAs, IsSlotKept, opening, points_after_raise, points_after_acquire, points_after_release, points_after_release_fence, points_after_yield, points_with_point, points_with_stamp, points_after_stamp, points_after_stamp_release, points_after_stamp_acquire, points_after_spawn, points_after_join, points_with_atomic, points_after_load, points_after_store, points_after_update_read, points_after_update_write, points_after_update_fail, points_after_unsync_load, points_after_with_mut, points_after_with_mut_end, points_after_acquire_fence, points_after_meet_global, points_after_fence, points_with_cell, points_after_read, points_after_write, readable_slots_of};
 
 use crate::rt::atomic::State;
@@ -15,6 +15,7 @@ use crate::rt::atomic::reader::Reader;
 use crate::rt::cell::AccessRecords;
 use crate::rt::failure::FailureKind;
 use crate::rt::synchronize::{Synchronize, ThreadViews};
+use crate::rt::views::places::Places;
 use crate::rt::vv::{VersionVec, mixed};
 use crate::rt::{MAX_ATOMIC_HISTORY, MAX_THREADS};
 use crate::same::{Same, are_same};
@@ -33,22 +34,13 @@ pub enum Kept {
     Cell(AccessRecords),
 }
 
-impl Kept {
-    /// A point at which no thread has synchronized.
-    fn new_point() -> Kept
-        ensures { result ≡ Point zeros }
-    {
-        Kept::Point(Synchronize::new())
-    }
-}
-
 /// The views of the threads of a run, what each object keeps of views, in the order made, and the global view, at which
 /// sequentially consistent fences meet.
 #[derive(Drop)]
 pub struct Views {
     threads: [ThreadViews; MAX_THREADS],
     count: usize,
-    places: Sequence<Kept>,
+    places: Places,
     // of messages and of other values that keep what their maker had released
     stamps: Sequence<Synchronize>,
     global: VersionVec,
@@ -62,7 +54,7 @@ impl Views {
         Views {
             threads: [ThreadViews::new(); MAX_THREADS],
             count: 1,
-            places: Sequence::new(alloc),
+            places: Places::new(alloc),
             stamps: Sequence::new(alloc),
             global: VersionVec::new(),
         }
@@ -247,27 +239,13 @@ impl Views {
         self.threads[thread] = views;
     }
 
-    /// Adds an object with what is kept of it. An error where a growth was refused; then nothing changes.
-    // each caller knows the variant, so that it moves just what that holds
-    #[inline(always)]
-    fn add(&mut self, kept: Kept) -> Result<(), AllocError>
-        ensures ok { OnOk result (self.new ≡ record self.old { places = self.old.places ++ kept ∷ [] }) }
-        ensures err { OnErr result (self.new ≡ self.old) }
-    {
-        match kept {
-            Kept::Point(sync) => self.places.push(Kept::Point(sync)),
-            Kept::Atomic(state) => self.places.push(Kept::Atomic(state)),
-            Kept::Cell(records) => self.places.push(Kept::Cell(records)),
-        }
-    }
-
     /// Adds an object that threads synchronize at. An error where a growth was refused; then nothing changes (loom's
     /// `rt/synchronize.rs`).
     pub fn add_point(&mut self) -> Result<(), AllocError>
         ensures shown { (p : Points) → ShowsViews p self.old → OnOk result (ShowsViews (points_with_point p) self.new) }
         ensures err { OnErr result (self.new ≡ self.old) }
     {
-        self.add(Kept::new_point())
+        self.places.push(Kept::Point(Synchronize::new()))
     }
 
     /// A thread spawns the next one. Refused in this order, with nothing changed: `Misuse` where there is no such thread,
@@ -319,7 +297,8 @@ impl Views {
             return Ok(());
         }
         let views = self.threads[thread];
-        self.add(Kept::Atomic(State::new(thread, &views, value)))
+        self.places
+            .push(Kept::Atomic(State::new(thread, &views, value)))
     }
 
     /// The slots of an atomic that a reader may choose, once the thread has raised its version. `OrdersEqual` where two stores
@@ -540,7 +519,7 @@ impl Views {
             return Ok(());
         }
         let views = self.threads[thread];
-        self.add(Kept::Cell(AccessRecords::new(&views)))
+        self.places.push(Kept::Cell(AccessRecords::new(&views)))
     }
 
     /// A thread reads a cell, which is recorded. `Race` with a write that hasn't come to the thread, `Misuse` where there is no

@@ -68,7 +68,8 @@ impl VersionVec {
 
     /// The word: thread t's count in the bits 16 t to 16 t + 15, and zero in the bits 80 to 127 (own).
     pub fn word(&self) -> u128
-        ensures { IsLaidOut self.now result }
+        ensures laid_out { IsLaidOut self.now result }
+        ensures counted { IsCounted self.now }
     {
         self.word
     }

@@ -63,7 +63,7 @@ fn hand_over<D: Data, C: Chooser>(
     ensures drawn { IsDrawn path.new }
     ensures same { IsSameSearch path.old path.new }
 {
-    match start(run, op) {
+    match start(run, path, op) {
         Err(stop) => Err(stop),
         Ok(Entry::Answered(reply)) => Ok(Turn::Reply(run.state.scene.active(), reply)),
         Ok(Entry::AtBranch) => schedule(run, path, chooser, FURTHER_BRANCHES),
@@ -159,7 +159,7 @@ fn pass<D: Data, C: Chooser>(
     let place = path.position();
     match path.draw_thread(chooser, &run.state.scene.offers()) {
         Err(stop) => Err(stop),
-        Ok(Some(thread)) => match access(run, thread, place) {
+        Ok(Some(thread)) => match access(run, path, thread, place) {
             Err(stop) => Err(stop),
             Ok(()) => take_turn(run, path, chooser, thread),
         },

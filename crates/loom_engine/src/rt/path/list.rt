@@ -1,12 +1,12 @@
 //! The nodes of a path in order, a word for each (own).
 
-ghost use Rattle.std.specs.Prelude.{◌≡◌, ◌<◌, ◌==◌, ◌↔◌, ◌++◌, ◌∷◌, ℕ, List, Option, [], IfOk, IfErr, IsSomeAnd, IsTrue, None, length, map, slice_get, slice_set, slice_index_or, take, Some};
+ghost use Rattle.std.specs.Prelude.{◌≡◌, ◌<◌, ◌==◌, ◌↔◌, ◌++◌, ◌∷◌, ℕ, List, Option, [], IfOk, IfErr, IfSome, IsSomeAnd, IsTrue, None, length, map, slice_get, slice_set, slice_index_or, take, Some};
 ghost use Rattle.std.specs.Option.{option_map};
 ghost use Rattle.loom_engine.specs.Walk.Path.{advance};
 ghost use Rattle.loom_objects.specs.Tree.Question.{made_of};
 ghost use Rattle.loom_objects.specs.Tree.Asked.{which_thread};
 ghost use Rattle.loom_engine.specs.declared.rt.path.node.Schedule.{Schedule};
-ghost use Rattle.loom_engine.specs.Path.Nodes.{seen_schedule, stored, AreWell};
+ghost use Rattle.loom_engine.specs.Path.Nodes.{active_thread, seen_schedule, stored, AreWell};
 ghost use Rattle.loom_engine.specs.Path.WellFormed.{AreAlike};
 ghost use Rattle.loom_engine.specs.Path.Words.{word_of, IsFit};
 
@@ -86,6 +86,16 @@ impl NodeList {
         ensures { option_map (λ node. node.present) (slice_get (stored self.now) place) ≡ Some result }
     {
         word::choice(self.words[place])
+    }
+
+    /// The thread that is the choice at the schedule at a place (own).
+    #[inline(always)]
+    pub fn active(&self, place: usize) -> Option<u8>
+        requires { place < length self.now }
+        ensures lowest { (n : Schedule) → slice_get self.now place ≡ Some (Node.Schedule n) → result ≡ active_thread n.statuses }
+        ensures within { IfSome result (λ thread. thread < 5) }
+    {
+        word::active(self.words[place])
     }
 
     /// Whether the node at a place is seen to have nothing left to try (own).

@@ -124,7 +124,8 @@ pub fn meets(word: u64, exploring: bool, offers: &Offers) -> bool
 /// The thread that is the choice at a schedule (own).
 #[inline(always)]
 pub fn active(word: u64) -> Option<u8>
-    ensures { result ≡ active_thread (statuses_in word) }
+    ensures lowest { result ≡ active_thread (statuses_in word) }
+    ensures within { IfSome result (λ thread. thread < 5) }
 {
     if status(word, 0).is_active() {
         Some(0)

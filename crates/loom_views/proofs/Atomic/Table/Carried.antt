@@ -1,5 +1,5 @@
 -- What is kept of a run keeps showing its points, where a thread or an object takes a step.
-use Rattle.std.proofs.Common.{zero, suc, subst, ◌≡◌, ◌≢◌, ℕ, ◌<◌, List, [], ◌∷◌, ◌++◌, length, get_or, set, refl, sym, ◌∙◌, arith, ⊎_elim, Option, Some, None, Result, Ok, Err}
+use Rattle.std.proofs.Common.{zero, suc, subst, ◌≡◌, ◌≢◌, ℕ, ◌<◌, List, [], ◌∷◌, ◌++◌, length, get_or, set, refl, sym, ap, ◌∙◌, arith, ⊎_elim, Option, Some, None, Result, Ok, Err}
 use Rattle.std.specs.Prelude.{OnOk}
 use Rattle.std.specs.List.{slice_get}
 use Rattle.std.proofs.lemmas.Bool.{cases_eq, ne_eqb}
@@ -279,3 +279,8 @@ global-stepped p v g k view r c s z = record {
 pub ok_as : {T E : Type 0} (r : Result T E) (P : Views → Type 0) (new made : Views) → OnOk r (new ≡ made) → P made → OnOk r (P new)
 ok_as (Ok x) P new made e h = subst P (sym e) h
 ok_as (Err x) P new made e h = tt
+
+-- the same of the places alone
+pub ok_placed : {T E : Type 0} (r : Result T E) (views : Views) (new made : List Kept) → OnOk r (new ≡ made) → OnOk r (◌≡◌ {A = Views} (record views { places = new }) (record views { places = made }))
+ok_placed (Ok x) views new made e = ap (λ (places : List Kept). record views { places = places }) e
+ok_placed (Err x) views new made e = tt

@@ -1,8 +1,8 @@
 //! A word of 128 bits as eight lanes of 16 bits, of which a version vector gives one to each thread (own). Only this file knows
 //! which bits a lane is.
 
-ghost use Rattle.std.specs.Prelude.{◌≡◌, ◌≢◌, ℕ, ◌<◌, ◌≤◌, MatchOption, max};
-ghost use Rattle.loom_views.specs.Lanes.{lane, lanes_in, word_of, IsFirstLarger};
+ghost use Rattle.std.specs.Prelude.{◌≡◌, ◌≢◌, ◌↔◌, ℕ, ◌<◌, ◌≤◌, IsTrue, MatchOption, max};
+ghost use Rattle.loom_views.specs.Lanes.{lane, lanes_in, word_of, AreLarger, IsFirstLarger};
 
 use std::simd::{u16x8, u64x2};
 
@@ -47,6 +47,16 @@ pub fn first_larger(word: u128, other: u128) -> Option<usize>
     } else {
         Some(ahead.trailing_zeros() as usize)
     }
+}
+
+/// Whether the other word has the larger number in each lane (own).
+pub fn are_larger(word: u128, other: u128) -> bool
+    ensures { IsTrue result ↔ AreLarger word other }
+{
+    let own = lanes(word);
+    let others = lanes(other);
+    // A bit for each lane.
+    own.simd_lt(others).to_bitmask() == 255
 }
 
 /// The lanes of a word.

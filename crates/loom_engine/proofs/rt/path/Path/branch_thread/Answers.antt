@@ -21,6 +21,9 @@ pass-requires-clause-stands c =
     let n : Node = node.Schedule c.in-Ok.schedule in
     subst (λ (r : Route). slice_get r.nodes r.position ≡ Some n) c.self.view_is (c.in-Ok.ensures []).0
 
+pub pass-requires-clause-chosen : goal.pass-requires-clause-chosen
+pass-requires-clause-chosen c = ap Thread (c.active-chosen.ensures.lowest c.in-Ok.schedule (c.in-Ok.ensures []).0)
+
 pub pass-requires-in-Ok-push-clause-stands : goal.pass-requires-in-Ok-push-clause-stands
 pass-requires-in-Ok-push-clause-stands c =
     let p : Route = c.args.self.now in
@@ -45,7 +48,7 @@ returns-in-Ok-clause-says c = λ places.
     let n : Node = node.Schedule c.in-Ok.schedule in
     let question : Question = which_thread (is_on c.args.self.now.exploring) c.args.offers.now places in
     passed_on p c.args.self.now question (Thread c.active-chosen.result) c.pass.new.self c.self.view_is
-    (follows_there p question n (Thread c.active-chosen.result) (c.in-Ok.ensures []).0 ((c.in-Ok.ensures places).1 ∙ ap (λ b. made_of (which_thread b c.args.offers.now places)) c.is_exploring-exploring.ensures) c.active-chosen.ensures.present)
+    (follows_there p question n (Thread c.active-chosen.result) (c.in-Ok.ensures []).0 ((c.in-Ok.ensures places).1 ∙ ap (λ b. made_of (which_thread b c.args.offers.now places)) c.is_exploring-exploring.ensures) (ap Thread (c.active-chosen.ensures.lowest c.in-Ok.schedule (c.in-Ok.ensures []).0)))
     c.pass.ensures
 
 pub returns-then-is_full-clause-says : goal.returns-then-is_full-clause-says

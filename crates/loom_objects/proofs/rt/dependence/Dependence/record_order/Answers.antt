@@ -2,7 +2,7 @@ use Rattle.std.proofs.Common.{◌≢◌, ◌≤◌, get_or, ap, sym, ◌∙◌, 
 use Rattle.std.proofs.lemmas.Bool.{OnTrue_at, true≢false}
 use Rattle.loom_objects.specs.Dependence.Shown.{joined_last}
 use Rattle.loom_objects.proofs.Dependence.Steps.{use-moved, use-full}
-use Rattle.loom_objects.proofs.rt.dependence.Dependence.record.Goals as goal
+use Rattle.loom_objects.proofs.rt.dependence.Dependence.record_order.Goals as goal
 
 pub returns-then-not-inc : goal.returns-then-not-inc
 returns-then-not-inc c = λ o z. use-full o c.args.self.now c.args.thread c.args.used c.args.place c.at.result.now c.joined-view.result c.requires c.at.ensures (c.joined-view.ensures ∙ ap (joined_last c.at.result.now) c.last_before.ensures) z _ (c.inc.ensures.full.0 c.if-not-inc.true)

@@ -1,6 +1,6 @@
 use Rattle.std.proofs.Common.{◌∙◌}
 use Rattle.loom_objects.proofs.Dependence.Grown.{grown-kept}
-use Rattle.loom_objects.proofs.rt.dependence.Dependence.grow.Goals as goal
+use Rattle.loom_objects.proofs.rt.dependence.Dependence.grow_order.Goals as goal
 
 pub returns-clause-grown : goal.returns-clause-grown
 returns-clause-grown c = λ o z.

@@ -1,0 +1,79 @@
+//! The version of each thread when it first touched a store, as one word (own).
+
+ghost use Rattle.std.specs.Prelude.{◌≡◌, ◌<◌, ◌≤◌, None, Some, slice_index_or, slice_set};
+ghost use Rattle.loom_views.specs.Atomic.Ring.{is_touch_in};
+ghost use Rattle.loom_views.specs.Atomic.Untouched.{untouched};
+ghost use Rattle.loom_views.specs.Limits.{highest_version};
+
+use crate::rt::vv::{VersionVec, lanes};
+use crate::same::Same;
+use std::marker::Model;
+
+// in the lane of a thread that hasn't touched the store, and in those of no thread: more than any version
+const UNTOUCHED: u16 = u16::MAX;
+
+/// For each thread its version at its first touch, if there was one: a lane of 16 bits for each (own).
+#[derive(Clone, Copy)]
+pub struct Touches {
+    word: u128,
+}
+
+impl Model for Touches {
+    ghost use Rattle.std.specs.Prelude.{ℕ, List, Option};
+    ghost use Rattle.std.proofs.Common.{ap};
+    ghost use Rattle.loom_views.specs.Atomic.Untouched.{touches_in, word_of, IsPadded, word_of-touches_in};
+
+    ghost Value = { List (Option ℕ) };
+
+    ghost view = { λ t. touches_in t.word };
+
+    ghost invariant = { λ t. IsPadded t.word };
+
+    ghost inverse = { λ ts. record { word = word_of ts } };
+
+    ghost inverse_ok = { λ a h. ap (λ (w : ℕ). record { word = w }) (word_of-touches_in a.word h) };
+}
+
+impl Touches {
+    /// No thread has touched the store (own).
+    pub fn new() -> Touches
+        ensures { result ≡ untouched }
+    {
+        Touches { word: u128::MAX }
+    }
+
+    /// The thread's version at its first touch, if there was one (own).
+    pub fn at(&self, thread: usize) -> Option<u16>
+        requires { thread < 5 }
+        ensures { result ≡ slice_index_or self.now thread None }
+    {
+        let version = lanes::get(self.word, thread);
+        if version == UNTOUCHED {
+            None
+        } else {
+            Some(version)
+        }
+    }
+
+    /// The thread's first touch is at this version (own).
+    pub fn set(&mut self, thread: usize, version: u16)
+        requires thread_in { thread < 5 }
+        requires counted { version ≤ highest_version }
+        ensures { self.new ≡ slice_set self.old thread (Some version) }
+    {
+        self.word = lanes::set(self.word, thread, version);
+    }
+
+    /// Whether a touch has come to this view (own).
+    pub fn is_one_in(&self, view: &VersionVec) -> bool
+        ensures { result ≡ is_touch_in self.now view.now }
+    {
+        !lanes::are_larger(view.word(), self.word)
+    }
+}
+
+impl Same for Touches {
+    fn is_same(&self, other: &Touches) -> bool {
+        self.word == other.word
+    }
+}
