@@ -1,4 +1,6 @@
 -- Proofs about the nodes that a path makes, and about the path.
 pub mod Making
 pub mod Given
+pub mod Drawing
+pub mod Below
 pub mod Paths

@@ -93,7 +93,7 @@ impl<D: Data + Same, B: Body + Same> State<D, B> {
 fn copied_bodies<B: Body>(alloc: Global, bodies: &[B]) -> Result<Sequence<B>, AllocError>
     ensures { IfOk result (λ copy. copy ≡ bodies.now) }
 {
-    let mut copy = Vec::new(alloc);
+    let mut copy = Vec::with_capacity(alloc, bodies.len())?;
     for body in bodies {
         copy.push(body.try_clone()?)?;
     }

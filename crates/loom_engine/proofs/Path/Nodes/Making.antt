@@ -73,7 +73,7 @@ module _ (every : Bool) where
   offers_map [] = refl
   offers_map (a ∷ abilities) = ap (λ x. x ∷ map ability_of (map (made_status every) abilities)) (offers_made every a) ∙ ap (λ l. a ∷ l) (offers_map abilities)
 
-  get_map : (abilities : List Ability) (k : ℕ) (a : Ability) → slice_get abilities k ≡ Some a → slice_get (map (made_status every) abilities) k ≡ Some (made_status every a)
+  pub get_map : (abilities : List Ability) (k : ℕ) (a : Ability) → slice_get abilities k ≡ Some a → slice_get (map (made_status every) abilities) k ≡ Some (made_status every a)
   get_map [] k a h = absurd (cc h)
   get_map (b ∷ abilities) zero a h = (let e : b ≡ a = cc h in ap (λ x. Some (made_status every x)) e)
   get_map (b ∷ abilities) (suc k) a h = get_map abilities k a h

@@ -64,10 +64,9 @@ impl Path {
         if self.is_full() {
             return Err(failed(FailureKind::TooManyBranches));
         }
-        let schedule = self.drawn_schedule(chooser, offers);
+        let (schedule, chosen) = self.drawn_schedule(chooser, offers);
         match self.push(Node::Schedule(schedule)) {
             Ok(()) => {
-                let chosen = schedule.active();
                 self.pass(&schedule, chosen);
                 Ok(chosen)
             }
@@ -75,13 +74,16 @@ impl Path {
         }
     }
 
-    /// A new schedule: at the thread that is drawn, where the run explores and that one can go on, or else at its default.
-    fn drawn_schedule<C: Chooser>(&self, chooser: &mut C, offers: &Offers) -> Schedule
+    /// A new schedule, and the thread that is its choice: the one that is drawn, where the run explores and that one can go on, or
+    /// else the default.
+    fn drawn_schedule<C: Chooser>(&self, chooser: &mut C, offers: &Offers) -> (Schedule, Option<u8>)
         requires { AreSoundOffers offers.now.default offers.now.abilities }
         ensures made { (places : List (Option ℕ)) → let made = made_of (which_thread (is_on self.now.exploring) offers.now places) in
-            Some (seen_schedule result) ≡ new_node (every_at self.now.search (passes_of (trail self.now)) made) made (Some (seen_schedule result).present) }
-        ensures rests { IsWellSchedule result }
-        ensures noted { Notes self.now.position (passes_of (trail self.now)) result }
+            Some (seen_schedule result.0) ≡ new_node (every_at self.now.search (passes_of (trail self.now)) made) made (Some (seen_schedule result.0).present) }
+        ensures present { Choice.Thread result.1 ≡ (seen_schedule result.0).present }
+        ensures rests { IsWellSchedule result.0 }
+        ensures noted { Notes self.now.position (passes_of (trail self.now)) result.0 }
+        ensures within { IfSome result.1 (λ thread. thread < 5) }
     {
         let exploring = self.is_exploring();
         let every = self.tries_each();
@@ -90,10 +92,7 @@ impl Path {
         } else {
             offers.default
         };
-        match making::schedule_at(exploring, offers, every, &self.tally, Choice::Thread(drawn)) {
-            Some(schedule) => schedule,
-            None => making::schedule(exploring, offers, every, &self.tally),
-        }
+        making::schedule_drawn(exploring, offers, every, &self.tally, drawn)
     }
 
     /// Makes a load at the end of the path, at a slot that is drawn, and passes it. `TooManyBranches` where the path may have no
@@ -114,32 +113,34 @@ impl Path {
         if self.is_full() {
             return Err(failed(FailureKind::TooManyBranches));
         }
-        let load = self.drawn_load(chooser, readable);
+        let (load, slot) = self.drawn_load(chooser, readable);
         match self.push(Node::Load(load)) {
             Ok(()) => {
                 self.pass_value();
-                Ok(load.slot())
+                Ok(slot)
             }
             Err(_) => Err(Stop::Memory),
         }
     }
 
-    /// A new load: at the slot that is drawn, where the run explores and that one may be read, or else at its default.
-    fn drawn_load<C: Chooser>(&self, chooser: &mut C, readable: &[bool; MAX_ATOMIC_HISTORY]) -> Load
+    /// A new load, and the slot that is its choice: the one that is drawn, where the run explores and that one may be read, or else
+    /// the default.
+    fn drawn_load<C: Chooser>(
+        &self,
+        chooser: &mut C,
+        readable: &[bool; MAX_ATOMIC_HISTORY],
+    ) -> (Load, u8)
         requires { Contains readable.now true }
-        ensures made { Some (seen_load result) ≡ new_node true (made_of (which_store (is_on self.now.exploring) readable.now)) (Some (seen_load result).present) }
-        ensures well { IsWellLoad result }
+        ensures made { Some (seen_load result.0) ≡ new_node true (made_of (which_store (is_on self.now.exploring) readable.now)) (Some (seen_load result.0).present) }
+        ensures present { Choice.Load result.1 ≡ (seen_load result.0).present }
+        ensures well { IsWellLoad result.0 }
     {
         let exploring = self.is_exploring();
-        let default = making::load(exploring, readable);
-        if !exploring {
-            return default;
+        if exploring {
+            return making::load_drawn(exploring, readable, chooser.slot(readable));
         }
-        let drawn = Choice::Load(chooser.slot(readable));
-        match making::load_at(exploring, readable, drawn) {
-            Some(load) => load,
-            None => default,
-        }
+        let load = making::load(exploring, readable);
+        (load, load.slot())
     }
 
     /// Makes a spurious wake-up at the end of the path, whose answer is drawn, and passes it. `TooManyBranches` where the path may

@@ -1,12 +1,13 @@
 //! Making the nodes of a path: each at its default or at a choice that was given, with the options that are to be tried.
-ghost use Rattle.std.specs.Prelude.{◌≡◌, ◌<◌, ◌↔◌, ℕ, List, Option, Some, IfSome, IsSomeAnd, IsTrue, true, slice_get, map, length};
+ghost use Rattle.std.specs.Prelude.{◌≡◌, ◌<◌, ◌↔◌, ◌⊎◌, ℕ, List, Option, Some, IfSome, IsSomeAnd, IsTrue, true, slice_get, map, take, length};
 ghost use Rattle.loom_engine.specs.Trees.Meeting.{is_below};
 ghost use Rattle.std.specs.List.{Contains};
 ghost use Rattle.std.specs.Option.{option_map};
 ghost use Rattle.loom_objects.specs.Tree.Question.{made_of};
 ghost use Rattle.loom_objects.specs.Tree.Sound.{AreSoundOffers};
 ghost use Rattle.loom_objects.specs.Tree.Asked.{which_thread, whether_spurious};
-ghost use Rattle.loom_objects.specs.Tree.Stores.{which_store};
+ghost use Rattle.loom_objects.specs.declared.rt.schedule.Ability.TheVariants.{Able};
+ghost use Rattle.loom_objects.specs.Tree.Stores.{slots, which_store};
 ghost use Rattle.loom_engine.specs.Walk.Path.{fresh};
 ghost use Rattle.loom_engine.specs.Trees.Drive.{new_node};
 ghost use Rattle.loom_engine.specs.Path.Nodes.{made_status, is_left, seen_schedule, seen_load, seen_spurious, IsWellSchedule, IsWellLoad};
@@ -101,6 +102,52 @@ pub(crate) fn schedule_at(
     Some(schedule)
 }
 
+/// A new schedule at a thread that was drawn, and that thread; or at the default, where that one can't go on.
+#[inline(always)]
+pub(crate) fn schedule_drawn(
+    exploring: bool,
+    offers: &Offers,
+    every: bool,
+    passed: &Tally,
+    drawn: Option<u8>,
+) -> (Schedule, Option<u8>)
+    requires { AreSoundOffers offers.now.default offers.now.abilities }
+    ensures made { (places : List (Option ℕ)) → Some (seen_schedule result.0) ≡ new_node every (made_of (which_thread exploring offers.now places)) (Some (Choice.Thread result.1)) }
+    ensures rests { IsWellSchedule result.0 }
+    ensures noted { (result.0.preemptions ≡ passed.now.preemptions) × (result.0.switch ≡ passed.now.switch) × (result.0.nearest ≡ passed.now.nearest) }
+    ensures within { IfSome result.1 (λ thread. thread < 5) }
+{
+    let chosen = able_or_default(offers, drawn);
+    let made = made_statuses(&offers.abilities, every);
+    let passed_over = with_status(made, offers.default, Status::Visited);
+    let schedule = Schedule {
+        preemptions: passed.preemptions,
+        switch: passed.switch,
+        nearest: passed.nearest,
+        first: offers.default,
+        exploring,
+        statuses: with_status(passed_over, chosen, Status::Active),
+    };
+    (schedule, chosen)
+}
+
+/// The thread, if there is one and it can go on, or else the default.
+fn able_or_default(offers: &Offers, thread: Option<u8>) -> Option<u8>
+    ensures { (result ≡ offers.now.default) ⊎ IsSomeAnd result (λ thread. slice_get offers.now.abilities thread ≡ Some Able) }
+{
+    match thread {
+        Some(place) if may_go_on(&offers.abilities, place as usize) => thread,
+        _ => offers.default,
+    }
+}
+
+/// Whether there is such a thread, and it can go on.
+fn may_go_on(abilities: &[Ability; MAX_THREADS], thread: usize) -> bool
+    ensures { IsTrue result → slice_get abilities.now thread ≡ Some Able }
+{
+    matches!(abilities.get(thread), Some(Ability::Able))
+}
+
 /// Whether a thread of this status can go on, and isn't the choice nor was tried.
 fn is_left(status: Status) -> bool
     ensures { result ≡ is_left status }
@@ -161,6 +208,43 @@ pub(crate) fn load_at(
         readable: *readable,
         position: count_slots(&readable[..slot as usize]) as u8,
     })
+}
+
+/// A new load at the slot that was drawn, and that slot; or at the lowest one, where the drawn one may not be read.
+#[inline(always)]
+pub(crate) fn load_drawn(
+    exploring: bool,
+    readable: &[bool; MAX_ATOMIC_HISTORY],
+    drawn: u8,
+) -> (Load, u8)
+    requires some { Contains readable.now true }
+    ensures made { Some (seen_load result.0) ≡ new_node true (made_of (which_store exploring readable.now)) (Some (Choice.Load result.1)) }
+    ensures well { IsWellLoad result.0 }
+{
+    if !is_readable(readable, drawn as usize) {
+        let lowest = load(exploring, readable);
+        return (lowest, lowest.slot());
+    }
+    let load = Load {
+        exploring,
+        readable: *readable,
+        position: count_below(readable, drawn),
+    };
+    (load, drawn)
+}
+
+/// How many of the slots below this one may be read.
+// Each slot is looked at, whatever the number: where it is drawn, the end of a shorter loop can't be foretold.
+#[inline(always)]
+fn count_below(readable: &[bool; MAX_ATOMIC_HISTORY], slot: u8) -> u8
+    requires { slot < 7 }
+    ensures { result ≡ length (slots (take slot readable.now)) }
+{
+    let mut count = 0;
+    'slots: for place in 0..MAX_ATOMIC_HISTORY {
+        count += u8::from(place < slot as usize && readable[place]);
+    }
+    count
 }
 
 /// A new node, where the run explores or doesn't, at which false is the choice, and true is to be tried.

@@ -86,7 +86,7 @@ pub(crate) fn copied_value<D: Data>(value: &Option<D>) -> Result<Option<D>, Allo
 pub(crate) fn copied_all<T: Kept>(alloc: Global, values: &[T]) -> Result<Sequence<T>, AllocError>
     ensures { IfOk result (λ copy. copy ≡ values.now) }
 {
-    let mut copy = Vec::new(alloc);
+    let mut copy = Vec::with_capacity(alloc, values.len())?;
     for value in values {
         copy.push(value.copied(alloc)?)?;
     }
