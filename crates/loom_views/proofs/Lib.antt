@@ -1,3 +1,4 @@
 pub mod Atomic
+pub mod Ranks
 pub mod Sight
 pub mod Views

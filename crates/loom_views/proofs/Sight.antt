@@ -1,7 +1,9 @@
 pub mod Accesses
 pub mod Fronts
+pub mod InOrder
 pub mod Moves
 pub mod Shapes
 pub mod Shown
+pub mod Spots
 pub mod Stores
 pub mod Tells

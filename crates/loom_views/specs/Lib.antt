@@ -6,6 +6,7 @@ pub mod Failures
 pub mod Graph
 pub mod Lanes
 pub mod Laws
+pub mod InOrder
 pub mod Limits
 pub mod Numbers
 pub mod Orderings

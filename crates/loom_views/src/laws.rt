@@ -173,13 +173,13 @@ pub fn example_histories()
     ensures { ExampleLaw }
 {}
 
-/// Where the same is seen of two runs' points, each move answers the same, and the same is seen of the points that it leads to
-/// (own).
+/// Where the same is seen of two runs' points, each move answers the same, and the same is seen of the points that it leads to. But a
+/// thread may have raised its version too often in one of them alone (own).
 pub fn sight_tells_moves()
     ensures { SightLaw }
 {}
 
-/// What is kept of a run says what is seen of its points: the same of each run that it shows (own).
+/// What is kept of a run says what is seen of its points, by the order of its counts alone (own).
 pub fn views_say_what_is_seen()
     ensures { ShownLaw }
 {}

@@ -4,6 +4,7 @@ pub mod atomic;
 pub mod cell;
 pub mod failure;
 pub mod num;
+pub mod ranks;
 pub mod synchronize;
 pub mod views;
 pub mod vv;

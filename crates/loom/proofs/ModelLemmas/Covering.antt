@@ -4,6 +4,9 @@ use Rattle.std.specs.Prelude.{IfOk, OnOk, nat_le, slice_get, slice_set, ⊤}
 use Rattle.std.proofs.lemmas.Option.{slice_get_past}
 use Rattle.loom_views.specs.declared.rt.failure.FailureKind.{FailureKind}
 use Rattle.loom_views.specs.declared.rt.failure.FailureKind.TheVariants.{Misuse}
+use Rattle.loom_views.specs.declared.rt.views.Views.{Views}
+use Rattle.loom_views.specs.InOrder.{IsInOrder}
+use Rattle.loom_views.proofs.Sight.InOrder.{in_order_itself}
 use Rattle.loom_objects.specs.declared.choice.Choice.{Choice}
 use Rattle.loom_objects.specs.declared.failure.Stop.{Stop}
 use Rattle.loom_objects.specs.declared.failure.Stop.TheVariants.{Failure as Because, Memory}
@@ -37,11 +40,15 @@ use Rattle.loom_engine.specs.Covering.Kept.{Noted, NotesAs, state_in}
 use Rattle.loom_engine.specs.Covering.UnderWay as under
 use Rattle.loom_engine.proofs.Covering.UnderWay as way
 use Rattle.loom.proofs.ModelLemmas.Handing.{IsHanded, slice_get_is}
-use Rattle.loom.specs.Model.Cover.{AreNoted, ComesTo, EndsWith, IsAtBranch, IsEndBy, IsEndOf, IsHanding, IsTabled, IsUnderWay, Leaves, LooksUp, Meets, Noting, StaysOpen}
+use Rattle.loom.specs.Model.Cover.{AreNoted, ComesTo, EndsWith, IsAtBranch, IsEndBy, IsEndOf, IsHanding, IsTabled, IsUnderWay, Leaves, LooksUpRun, Meets, Noting, StaysOpen}
 use Rattle.loom.specs.declared.model.cover.run.Ending.{Ending}
 use Rattle.loom.specs.declared.model.cover.run.Found.TheVariants.{Known, New}
 use Rattle.loom.specs.declared.model.cover.run.Halt.{Halt}
 use Rattle.loom.specs.declared.model.cover.run.Halt.TheVariants as halt
+
+-- where nothing is looked up
+pub not_looked_up : {D S : Type 0} (run : Progress D) (bodies : List S) (path : Route) (old new : Noted D S) → new ≡ old → LooksUpRun run bodies path old New new
+not_looked_up run bodies path old new same = record { views = run.state.scene.views; order = in_order_itself run.state.scene.views; looks = inr same }
 
 module _ {D S : Type 0} (next : Meaning D S) (run : Noting D S) where
   -- the path's search is the whole one
@@ -130,12 +137,12 @@ module _ {D S : Type 0} (next : Meaning D S) (run : Noting D S) where
 
   module _ (bodies : List S) (old : Progress D) (path : Route) (noted : Noted D S) (h : IsAtBranch next run bodies old path noted) where
     -- the state was noted
-    pub met : is_on path.exploring ≡ true → is_used_up (trail path) ≡ true → (number : ℕ) → slice_get noted.states number ≡ Some (state_in old bodies) → Meets next run number path noted
-    met explores used number has =
+    pub met : is_on path.exploring ≡ true → is_used_up (trail path) ≡ true → (number : ℕ) (views : Views) → IsInOrder old.state.scene.views views → slice_get noted.states number ≡ Some (state_in old bodies views) → Meets next run number path noted
+    met explores used number views order has =
         let all = not_less _ _ (both _ _ used) in
         let on = h.shown.exploring ∙ exploring_so path.exploring explores in (
-          (h.tables, way.met_along run.room (marking None) next run.explores run.max_threads run.max_steps run.body run.path run.old (trail path) (suc h.course.world.steps_left) bodies h.course h.at all noted h.tables old path h.shown on number has),
-          way.met_there run.room (marking None) next run.explores run.max_threads run.max_steps run.body run.path run.old (trail path) (suc h.course.world.steps_left) bodies h.course h.at all noted h.tables old path h.shown on number has,
+          (h.tables, way.met_along run.room (marking None) next run.explores run.max_threads run.max_steps run.body run.path run.old (trail path) (suc h.course.world.steps_left) bodies h.course h.at all noted h.tables old path views h.shown order on number has),
+          way.met_there run.room (marking None) next run.explores run.max_threads run.max_steps run.body run.path run.old (trail path) (suc h.course.world.steps_left) bodies h.course h.at all noted h.tables old path views h.shown order on number has,
         )
 
     module _ (new : Progress D) (after : Route) (same : after.search ≡ path.search) where
@@ -145,9 +152,9 @@ module _ {D S : Type 0} (next : Meaning D S) (run : Noting D S) where
           (way.fails_on run.room (marking None) next run.explores run.max_threads run.max_steps run.body run.path run.old (trail path) (suc h.course.world.steps_left) bodies h.course h.at kind (trail after) (by_whole path (schedule further_branches h.course) (Err kind, trail after) h.whole e))
 
       -- it comes to a turn, once the state was noted or wasn't
-      pub schedule_turns : (turn : Turn D) (more : Noted D S) → ((is_on path.exploring ≡ true) × (is_used_up (trail path) ≡ true) × NotesAs (state_in old bodies) (chosen path) noted more) ⊎ (more ≡ noted) → new.state.steps_left ≡ old.state.steps_left
+      pub schedule_turns : (turn : Turn D) (more : Noted D S) (views : Views) → IsInOrder old.state.scene.views views → ((is_on path.exploring ≡ true) × (is_used_up (trail path) ≡ true) × NotesAs (state_in old bodies views) (chosen path) noted more) ⊎ (more ≡ noted) → new.state.steps_left ≡ old.state.steps_left
           → (v : Course D) → ShowsCourse v new after → drives (schedule further_branches h.course) path ≡ (Ok (turn, v), trail after) → ComesTo next run (Ok turn) bodies new after more
-      schedule_turns turn more notes steps v shown e =
+      schedule_turns turn more views order notes steps v shown e =
           let drawn : drive (whole_search run.room) (marking None) (schedule further_branches h.course) (trail path) ≡ (Ok (turn, v), trail after) =
           by_whole path (schedule further_branches h.course) (Ok (turn, v), trail after) h.whole e in
           let l = left_of h.course old path h.shown in
@@ -157,10 +164,10 @@ module _ {D S : Type 0} (next : Meaning D S) (run : Noting D S) where
           (subst (λ (n : ℕ). under.TurnIs run.room (marking None) next run.explores run.max_threads run.max_steps run.body run.path run.old (trail after) n bodies v turn) counted
           (way.turned_on run.room (marking None) next run.explores run.max_threads run.max_steps run.body run.path run.old (trail path) (suc h.course.world.steps_left) bodies h.course h.at turn v (trail after) drawn))
         where
-          tabled : (turn : Turn D) (more : Noted D S) → ((is_on path.exploring ≡ true) × (is_used_up (trail path) ≡ true) × NotesAs (state_in old bodies) (chosen path) noted more) ⊎ (more ≡ noted) → (v : Course D)
+          tabled : (turn : Turn D) (more : Noted D S) → ((is_on path.exploring ≡ true) × (is_used_up (trail path) ≡ true) × NotesAs (state_in old bodies views) (chosen path) noted more) ⊎ (more ≡ noted) → (v : Course D)
               → drive (whole_search run.room) (marking None) (schedule further_branches h.course) (trail path) ≡ (Ok (turn, v), trail after) → IsTabled next run more after
           tabled turn more (inl (explores, used, notes)) v drawn =
-              way.tables_noted run.room (marking None) next run.explores run.max_threads run.max_steps run.body run.path run.old (trail path) (suc h.course.world.steps_left) bodies h.course h.at noted more old path (turn, v) (trail after) h.shown (h.shown.exploring ∙ exploring_so path.exploring explores) (not_less _ _ (both _ _ used)) notes drawn h.tables
+              way.tables_noted run.room (marking None) next run.explores run.max_threads run.max_steps run.body run.path run.old (trail path) (suc h.course.world.steps_left) bodies h.course h.at noted more old path views (turn, v) (trail after) h.shown order (h.shown.exploring ∙ exploring_so path.exploring explores) (not_less _ _ (both _ _ used)) notes drawn h.tables
           tabled turn more (inr same) v drawn =
               way.tables_same run.room (marking None) next run.explores run.max_threads run.max_steps run.body run.path run.old noted more (trail path) (trail after) same (way.stays_on run.room (marking None) next run.explores run.max_threads run.max_steps run.body run.path run.old (trail path) (suc h.course.world.steps_left) bodies h.course h.at (turn, v) (trail after) drawn) h.tables
 
@@ -200,16 +207,16 @@ module _ {D S : Type 0} (next : Meaning D S) (run : Noting D S) where
     scheduled_stops (Because failure) event = schedule_fails bodies old.run path noted h new.run after same failure.kind more (scheduled_along (Err (Because failure)) event h.course h.shown)
     scheduled_stops Memory event = tt
 
-    pub scheduled_turns : (turn : Turn D) → Schedules old path (Ok turn) new after → LooksUp (state_in old.run bodies) path noted New more → new.run.state.steps_left ≡ old.run.state.steps_left
+    pub scheduled_turns : (turn : Turn D) → Schedules old path (Ok turn) new after → LooksUpRun old.run bodies path noted New more → new.run.state.steps_left ≡ old.run.state.steps_left
         → ComesTo next run (Ok turn) bodies new.run after more
     scheduled_turns turn event looked steps =
         let z = scheduled_along (Ok turn) event h.course h.shown in
-        schedule_turns bodies old.run path noted h new.run after same turn more looked steps z.0 z.1 z.2
+        schedule_turns bodies old.run path noted h new.run after same turn more looked.views looked.order looked.looks steps z.0 z.1 z.2
 
   -- its state was noted before
-  pub met_there : (bodies : List S) (old : Progress D) (path : Route) (noted more : Noted D S) (number : ℕ) → LooksUp (state_in old bodies) path noted (Known number) more → IsAtBranch next run bodies old path noted
+  pub met_there : (bodies : List S) (old : Progress D) (path : Route) (noted more : Noted D S) (number : ℕ) → LooksUpRun old bodies path noted (Known number) more → IsAtBranch next run bodies old path noted
       → Meets next run number path more
-  met_there bodies old path noted more number looked h = subst (λ (l : Noted D S). Meets next run number path l) (sym looked.3) (met bodies old path noted h looked.0 looked.1 number looked.2)
+  met_there bodies old path noted more number looked h = subst (λ (l : Noted D S). Meets next run number path l) (sym looked.looks.3) (met bodies old path noted h looked.looks.0 looked.looks.1 number looked.views looked.order looked.looks.2)
 
   -- ---- a turn
 

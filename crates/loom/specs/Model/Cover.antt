@@ -1,6 +1,8 @@
 -- A search that remembers states: its runs, and what its report says.
 use Rattle.std.specs.Prelude.{ℕ, suc, ◌≡◌, ◌⊎◌, Bool, true, List, slice_get, Option, Some, None, Result, Ok, Err}
 use Rattle.loom_views.specs.declared.rt.failure.FailureKind.{FailureKind}
+use Rattle.loom_views.specs.declared.rt.views.Views.{Views}
+use Rattle.loom_views.specs.InOrder.{IsInOrder}
 use Rattle.loom_objects.specs.declared.failure.Stop.{Stop}
 use Rattle.loom_objects.specs.declared.failure.Stop.TheVariants.{Failure as Because, Memory}
 use Rattle.loom_objects.specs.declared.operation.Reply.{Reply}
@@ -19,7 +21,7 @@ use Rattle.loom_engine.specs.Trees.Drive.{is_used_up}
 use Rattle.loom_engine.specs.Trees.Marks.{marking}
 use Rattle.loom_engine.specs.Trees.Meeting.{whole_search}
 use Rattle.loom_engine.specs.Walk.Path.{Stored}
-use Rattle.loom_engine.specs.Covering.Kept.{AreKeptAfter, Noted, NotesAs}
+use Rattle.loom_engine.specs.Covering.Kept.{AreKeptAfter, Noted, NotesAs, state_in}
 use Rattle.loom_engine.specs.Covering.UnderWay as under
 use Rattle.loom.specs.declared.model.cover.run.Ending.{Ending}
 use Rattle.loom.specs.declared.model.cover.run.Ending.TheVariants.{Ended, Met, Failed}
@@ -112,6 +114,12 @@ module _ {D S : Type 0} (next : Meaning D S) (run : Noting D S) where
 abbrev pub LooksUp : {D S : Type 0} → Kept D S → Route → Noted D S → Found → Noted D S → Type 0
 LooksUp state path old (Known number) new = (is_on path.exploring ≡ true) × (is_used_up (trail path) ≡ true) × (slice_get old.states number ≡ Some state) × (new ≡ old)
 LooksUp state path old New new = ((is_on path.exploring ≡ true) × (is_used_up (trail path) ≡ true) × NotesAs state (chosen path) old new) ⊎ (new ≡ old)
+
+-- Its state is known by views in the order of its own.
+pub record LooksUpRun {D S : Type 0} (run : Progress D) (bodies : List S) (path : Route) (old : Noted D S) (found : Found) (new : Noted D S) : Type 0 where
+  pub views : Views
+  pub order : IsInOrder run.state.scene.views views
+  pub looks : LooksUp (state_in run bodies views) path old found new
 
 -- a run that is stopped by a failure ends with it
 abbrev pub IsEndOf : {D : Type 0} → Stop → Ending D → Type 0

@@ -2,8 +2,9 @@
 use Rattle.std.proofs.Common.{◌≡◌, ◌⊎◌, ℕ, Bool, true, false, zero, suc, arith, List, [], ◌∷◌, length, Some, ap, sym, ◌∙◌, subst}
 use Rattle.std.specs.List.{Contains}
 use Rattle.std.specs.Prelude.{slice_get}
+use Rattle.loom_views.specs.InOrder.{IsInOrder}
 use Rattle.loom_views.specs.Sight.{Sight as SightOfPoints, seen}
-use Rattle.loom_views.specs.Views.{Points, ShowsViews, opening as first_points}
+use Rattle.loom_views.specs.Views.{Points, opening as first_points}
 use Rattle.loom_views.specs.declared.rt.views.Views.{Views}
 use Rattle.loom_views.proofs.Sight.Shown.{shown_law}
 use Rattle.loom_objects.specs.Dependence.Order.{Order}
@@ -64,35 +65,35 @@ module _ {D S : Type 0} where
       on ∙ ap (λ (v : World D). record s { exploring = On; seen = looked v (seen w.points) }) rest in
       let more_so : s ≡ record s { exploring = On; more = further_branches; seen = looked (world_of w.points is.run.state.steps_left is.run.state.scene) (seen w.points) } =
       seen_so ∙ ap (λ (n : ℕ). record s { exploring = On; more = n; seen = looked (world_of w.points is.run.state.steps_left is.run.state.scene) (seen w.points) }) is.first in
-      let ordered_so : s ≡ told (state_in is.run is.moment.bodies) (seen w.points) =
+      let ordered_so : s ≡ told (state_in is.run is.moment.bodies is.views) (seen w.points) =
       more_so
       ∙ ap (λ (n : ℕ). record s { exploring = On; more = further_branches; ordered = n; seen = looked (world_of w.points is.run.state.steps_left is.run.state.scene) (seen w.points) }) (kept_count is.path.search.reduce is.moment.course.order is.run.dependence is.shown.order) in
       is.state ∙ ap (λ (x : State S (Sight D (SightOfPoints ⊎ Points))). (Some x, [])) (ordered_so ∙ ap (λ (k : Kept D S). told k (seen w.points)) (sym is.copied))
 
   seen_same : (kept : Kept D S) (one other : Key D S) (is : IsKeptOf kept one) (too : IsKeptOf kept other) → seen is.moment.course.world.points ≡ seen too.moment.course.world.points
   seen_same kept one other is too =
-      let views : too.run.state.scene.views ≡ is.run.state.scene.views = ap (λ (k : Kept D S). k.views) (sym too.copied ∙ is.copied) in
-      shown_law is.moment.course.world.points too.moment.course.world.points is.run.state.scene.views is.led too.led is.shown.world.views
-      (subst (λ (v : Views). ShowsViews too.moment.course.world.points v) views too.shown.world.views)
+      let views : too.views ≡ is.views = ap (λ (k : Kept D S). k.views) (sym too.copied ∙ is.copied) in
+      shown_law is.moment.course.world.points too.moment.course.world.points is.run.state.scene.views too.run.state.scene.views is.views is.led too.led is.shown.world.views too.shown.world.views is.order
+      (subst (λ (v : Views). IsInOrder too.run.state.scene.views v) views too.order)
 
 pub kept_law : {D S : Type 0} → KeptLaw D S
 kept_law kept one other is too =
     tells kept one is ∙ ap (λ (x : SightOfPoints ⊎ Points). (Some (told kept x), [])) (seen_same kept one other is too) ∙ sym (tells kept other too)
 
 -- where all parts of it are those of the run, it is the state of the run
-pub is_state_in : {D S : Type 0} (kept : Kept D S) (run : Progress D) (bodies : List S) → HasScene kept run.state.scene → kept.ordered ≡ length run.dependence.threads → kept.bodies ≡ bodies → kept ≡ state_in run bodies
-is_state_in {D} {S} kept run bodies has count same =
+pub is_state_in : {D S : Type 0} (kept : Kept D S) (run : Progress D) (bodies : List S) (views : Views) → HasScene kept run.state.scene → kept.views ≡ views → kept.ordered ≡ length run.dependence.threads → kept.bodies ≡ bodies → kept ≡ state_in run bodies views
+is_state_in {D} {S} kept run bodies views has order count same =
     let s = run.state.scene in
     let one : kept ≡ record kept { threads = s.threads } = ap (λ (l : List (Thread D)). record kept { threads = l }) has.threads in
     let two : kept ≡ record kept { threads = s.threads; objects = s.objects } = one ∙ ap (λ (l : List (Object D)). record kept { threads = s.threads; objects = l }) has.objects in
-    let three : kept ≡ record kept { threads = s.threads; objects = s.objects; views = s.views } = two ∙ ap (λ (v : Views). record kept { threads = s.threads; objects = s.objects; views = v }) has.views in
-    let four : kept ≡ record kept { threads = s.threads; objects = s.objects; views = s.views; lazies = s.lazies } =
-    three ∙ ap (λ (l : List (Lazy D)). record kept { threads = s.threads; objects = s.objects; views = s.views; lazies = l }) has.lazies in
-    let five : kept ≡ record kept { threads = s.threads; objects = s.objects; views = s.views; lazies = s.lazies; max_threads = s.max_threads } =
-    four ∙ ap (λ (n : ℕ). record kept { threads = s.threads; objects = s.objects; views = s.views; lazies = s.lazies; max_threads = n }) has.max_threads in
-    let six : kept ≡ record kept { threads = s.threads; objects = s.objects; views = s.views; lazies = s.lazies; max_threads = s.max_threads; ordered = length run.dependence.threads } =
-    five ∙ ap (λ (n : ℕ). record kept { threads = s.threads; objects = s.objects; views = s.views; lazies = s.lazies; max_threads = s.max_threads; ordered = n }) count in
-    six ∙ ap (λ (l : List S). let k : Kept D S = record kept { threads = s.threads; objects = s.objects; views = s.views; lazies = s.lazies; max_threads = s.max_threads; ordered = length run.dependence.threads; bodies = l } in k) same
+    let three : kept ≡ record kept { threads = s.threads; objects = s.objects; views = views } = two ∙ ap (λ (v : Views). record kept { threads = s.threads; objects = s.objects; views = v }) order in
+    let four : kept ≡ record kept { threads = s.threads; objects = s.objects; views = views; lazies = s.lazies } =
+    three ∙ ap (λ (l : List (Lazy D)). record kept { threads = s.threads; objects = s.objects; views = views; lazies = l }) has.lazies in
+    let five : kept ≡ record kept { threads = s.threads; objects = s.objects; views = views; lazies = s.lazies; max_threads = s.max_threads } =
+    four ∙ ap (λ (n : ℕ). record kept { threads = s.threads; objects = s.objects; views = views; lazies = s.lazies; max_threads = n }) has.max_threads in
+    let six : kept ≡ record kept { threads = s.threads; objects = s.objects; views = views; lazies = s.lazies; max_threads = s.max_threads; ordered = length run.dependence.threads } =
+    five ∙ ap (λ (n : ℕ). record kept { threads = s.threads; objects = s.objects; views = views; lazies = s.lazies; max_threads = s.max_threads; ordered = n }) count in
+    six ∙ ap (λ (l : List S). let k : Kept D S = record kept { threads = s.threads; objects = s.objects; views = views; lazies = s.lazies; max_threads = s.max_threads; ordered = length run.dependence.threads; bodies = l } in k) same
 
 -- a list has what stands at one of its places
 pub has_at : {X : Type 0} (xs : List X) (k : ℕ) (x : X) → slice_get xs k ≡ Some x → Contains xs x

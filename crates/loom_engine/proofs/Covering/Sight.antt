@@ -1,11 +1,12 @@
 -- What is seen of points tells their moves, so that states of which the same is seen have equal futures.
-use Rattle.std.proofs.Common.{◌≡◌, ℕ, Bool, true, List, [], ◌++◌, Option, Some, Result, Ok, Err, refl, ap, inl, subst}
+use Rattle.std.proofs.Common.{◌≡◌, ℕ, Bool, true, List, [], ◌++◌, Option, Some, Result, Ok, Err, refl, ap, ◌∙◌, inl, inr, subst}
 use Rattle.std.specs.Prelude.{◌⊎◌}
 use Rattle.loom_views.specs.Sight.{Sight as SightOfPoints, seen}
 use Rattle.loom_views.specs.Views.{Accessed, Points}
-use Rattle.loom_views.specs.Laws.Sight.{MovesAlike as MoveAlike, AccessesAlike as AccessAlike}
+use Rattle.loom_views.specs.Laws.Sight.{RaisesAlike as RaiseAlike, MovesAlike as MoveAlike, AccessesAlike as AccessAlike}
 use Rattle.loom_views.proofs.Sight.Tells.{sight_law}
 use Rattle.loom_views.specs.declared.rt.failure.FailureKind.{FailureKind}
+use Rattle.loom_views.specs.declared.rt.failure.FailureKind.TheVariants.{TooManyVersions}
 use Rattle.loom_objects.specs.Tree.Tree.{came}
 use Rattle.loom_objects.specs.World.{World}
 use Rattle.loom_engine.specs.Covering.Points.{AccessesAlike, MovesAlike, SlotsAlike, Sight, sight}
@@ -41,6 +42,14 @@ module _ (limits : FailureKind → Bool) where
   moves_so (Err kind) (Ok q) h = absurd h
   moves_so (Err kind) (Err other) h = inl h
 
+  raises_so : limits TooManyVersions ≡ true → (r s : Result Points FailureKind) → RaiseAlike r s → MovesAlike limits seen r s
+  raises_so l (Ok p) (Ok q) h = h
+  raises_so l (Ok p) (Err kind) h = ap limits h ∙ l
+  raises_so l (Err kind) (Ok q) h = ap limits h ∙ l
+  raises_so l (Err kind) (Err other) (inl e) = inl e
+  raises_so l (Err kind) (Err other) (inr (inl e)) = inr (inl (ap limits e ∙ l))
+  raises_so l (Err kind) (Err other) (inr (inr e)) = inr (inr (ap limits e ∙ l))
+
   accesses_so : (r s : Result Accessed FailureKind) → AccessAlike r s → AccessesAlike limits seen r s
   accesses_so (Ok a) (Ok b) h = h
   accesses_so (Ok a) (Err kind) h = absurd h
@@ -51,10 +60,10 @@ module _ (limits : FailureKind → Bool) where
   slots_so r s e = subst (λ x. SlotsAlike limits seen r x) e (alike_self limits (λ (a b : List ℕ). a ≡ b) (λ a. refl) (came r))
 
 pub sight_moves_law : SightMovesLaw
-sight_moves_law limits = record {
+sight_moves_law limits versions = record {
   stamps = sight_law.stamps;
-  raise = λ p q t e. moves_so limits _ _ (sight_law.raise p q t e);
-  spawn = λ p q t e. moves_so limits _ _ (sight_law.spawn p q t e);
+  raise = λ p q t e. raises_so limits versions _ _ (sight_law.raise p q t e);
+  spawn = λ p q t e. raises_so limits versions _ _ (sight_law.spawn p q t e);
   acquire = sight_law.acquire;
   release = sight_law.release;
   fence = sight_law.fence;
@@ -89,7 +98,7 @@ module _ {D : Type 0} (limits : FailureKind → Bool) (are : AreLimits limits) w
   seen_tells : TellsFuture limits seen_at (LooksSame (sight {D = D} seen))
   unfolding turnless
   seen_tells =
-      let tells : TellsFuture limits (λ explores (w : World D). sight seen w) (LooksSame (sight {D = D} seen)) = points_law limits seen are.steps (sight_moves_law limits) in
+      let tells : TellsFuture limits (λ explores (w : World D). sight seen w) (LooksSame (sight {D = D} seen)) = points_law limits seen are.steps (sight_moves_law limits are.versions) in
       turn_law limits (λ explores (w : World D). sight seen w) (sight {D = D} seen) tells (λ w v e. ap turnless e)
 
 pub seen_body_law : {D S : Type 0} → SeenBodyLaw D S

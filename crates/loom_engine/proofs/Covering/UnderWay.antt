@@ -6,6 +6,8 @@ use Rattle.std.proofs.lemmas.List.Elements.{Contains-append_cases}
 use Rattle.loom_views.specs.Laws.Moves.{none}
 use Rattle.loom_views.specs.declared.rt.failure.FailureKind.{FailureKind}
 use Rattle.loom_views.specs.declared.rt.failure.FailureKind.TheVariants.{Misuse}
+use Rattle.loom_views.specs.declared.rt.views.Views.{Views}
+use Rattle.loom_views.specs.InOrder.{IsInOrder}
 use Rattle.loom_objects.specs.declared.choice.Choice.{Choice}
 use Rattle.loom_objects.specs.declared.operation.Reply.{Reply}
 use Rattle.loom_objects.specs.declared.operation.Reply.TheVariants as reply
@@ -373,8 +375,8 @@ module _ {D S : Type 0} (room : ℕ) (adds : Marking) (next : Meaning D S) (expl
     pub key_here : key (passed path) ≡ (Some (state_of seen_at (record { bodies = bodies; course = c; more = further_branches; left = left })), [])
     key_here = ap (seen_in seen_at) at.way.stands
 
-    pub kept_here : (run : Progress D) (route : Route) → ShowsCourse c run route → c.exploring ≡ On → IsKeptOf (state_in run bodies) (key (passed path))
-    kept_here run route shown explores = record {
+    pub kept_here : (run : Progress D) (route : Route) (views : Views) → ShowsCourse c run route → IsInOrder run.state.scene.views views → c.exploring ≡ On → IsKeptOf (state_in run bodies views) (key (passed path))
+    kept_here run route views shown order explores = record {
       run = run;
       path = route;
       moment = record { bodies = bodies; course = c; more = further_branches; left = left };
@@ -382,6 +384,8 @@ module _ {D S : Type 0} (room : ℕ) (adds : Marking) (next : Meaning D S) (expl
       led = at.led;
       first = refl;
       explores = explores;
+      views = views;
+      order = order;
       copied = refl;
       state = key_here;
     }
@@ -415,13 +419,13 @@ module _ {D S : Type 0} (room : ℕ) (adds : Marking) (next : Meaning D S) (expl
           by true h = absurd (none_here n (ap (λ (d : List Choice). node_at path.nodes d) (it_was (passed path) b h) ∙ at.way.stays b n e))
 
       -- a run that has come to a state that was noted
-      module _ (noted : Noted D S) (tables : Tables noted path) (run : Progress D) (route : Route) (shown : ShowsCourse c run route) (is_exploring : c.exploring ≡ On) (number : ℕ)
-          (has : slice_get noted.states number ≡ Some (state_in run bodies)) where
-        led : (d : List Choice) × (slice_get noted.led_by number ≡ Some d) × IsKeptOf (state_in run bodies) (key d)
-        led = tables.explained.each number (state_in run bodies) has
+      module _ (noted : Noted D S) (tables : Tables noted path) (run : Progress D) (route : Route) (views : Views) (shown : ShowsCourse c run route) (order : IsInOrder run.state.scene.views views) (is_exploring : c.exploring ≡ On) (number : ℕ)
+          (has : slice_get noted.states number ≡ Some (state_in run bodies views)) where
+        led : (d : List Choice) × (slice_get noted.led_by number ≡ Some d) × IsKeptOf (state_in run bodies views) (key d)
+        led = tables.explained.each number (state_in run bodies views) has
 
         same_state : key led.0 ≡ key (passed path)
-        same_state = kept_law (state_in run bodies) (key led.0) (key (passed path)) led.2 (kept_here run route shown is_exploring)
+        same_state = kept_law (state_in run bodies views) (key led.0) (key (passed path)) led.2 (kept_here run route views shown order is_exploring)
 
         pub met_along : IsAlong room adds tree key (keys old) p (Ok None) path (keys noted)
         met_along = record {
@@ -440,11 +444,11 @@ module _ {D S : Type 0} (room : ℕ) (adds : Marking) (next : Meaning D S) (expl
     -- ---- what is noted
 
     -- after the schedule, the state before it is that of a node
-    pub tables_noted : (noted grown : Noted D S) (run : Progress D) (route : Route) (came : Turn D × Course D) (end : Trail) → ShowsCourse c run route → c.exploring ≡ On
-        → length path.nodes ≤ path.position → NotesAs (state_in run bodies) (passed path) noted grown → drive (whole_search room) adds (schedule further_branches c) path ≡ (Ok came, end) → Tables noted path → Tables grown end
-    tables_noted noted grown run route came end shown explores all (inr same) e tables = tables_same noted grown path end same (stays_on came end e) tables
-    tables_noted noted grown run route came end shown explores all (inl grows) e tables = record {
-      explained = one_more key noted grown (state_in run bodies) (passed path) grows.0 grows.1 (kept_here run route shown explores) tables.explained;
+    pub tables_noted : (noted grown : Noted D S) (run : Progress D) (route : Route) (views : Views) (came : Turn D × Course D) (end : Trail) → ShowsCourse c run route → IsInOrder run.state.scene.views views → c.exploring ≡ On
+        → length path.nodes ≤ path.position → NotesAs (state_in run bodies views) (passed path) noted grown → drive (whole_search room) adds (schedule further_branches c) path ≡ (Ok came, end) → Tables noted path → Tables grown end
+    tables_noted noted grown run route views came end shown order explores all (inr same) e tables = tables_same noted grown path end same (stays_on came end e) tables
+    tables_noted noted grown run route views came end shown order explores all (inl grows) e tables = record {
+      explained = one_more key noted grown (state_in run bodies views) (passed path) grows.0 grows.1 (kept_here run route views shown order explores) tables.explained;
       grows = λ k c at. subst (λ (l : List (List Choice)). slice_get l k ≡ Some c) (sym grows.1) (still_there noted.led_by (passed path) k c (tables.grows k c at));
       later = record {
         there = λ k c l at. there k c l (at_last noted.led_by (passed path) k c (subst (λ (x : List (List Choice)). slice_get x k ≡ Some c) grows.1 at));

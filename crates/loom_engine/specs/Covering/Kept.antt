@@ -1,5 +1,7 @@
 -- What is kept of where a run stands, and what it tells.
 use Rattle.std.specs.Prelude.{ℕ, ◌≡◌, ◌⊎◌, List, [], ◌∷◌, ◌++◌, length, slice_get, Option, Some}
+use Rattle.loom_views.specs.declared.rt.views.Views.{Views}
+use Rattle.loom_views.specs.InOrder.{IsInOrder}
 use Rattle.loom_views.specs.Laws.Moves.{Leads}
 use Rattle.loom_views.specs.Sight.{Sight as SightOfPoints}
 use Rattle.loom_views.specs.Views.{Points, opening as first_points}
@@ -26,24 +28,23 @@ pub record Noted (D S : Type 0) : Type 0 where
   pub led_by : List (List Choice)
 
 module _ {D S : Type 0} where
-  -- where a run stands, with its threads' bodies
-  abbrev pub state_in : Progress D → List S → Kept D S
-  state_in run bodies =
+  -- where a run stands, with its threads' bodies, and these views in place of its own
+  abbrev pub state_in : Progress D → List S → Views → Kept D S
+  state_in run bodies views =
       record {
         threads = run.state.scene.threads;
         objects = run.state.scene.objects;
-        views = run.state.scene.views;
+        views = views;
         lazies = run.state.scene.lazies;
         max_threads = run.state.scene.max_threads;
         ordered = length run.dependence.threads;
         bodies = bodies;
       }
 
-  -- it has what the scene has, but for whose turn it is
+  -- it has what the scene has, but for whose turn it is, and for its views
   pub record HasScene (kept : Kept D S) (scene : Stage D) : Type 0 where
     pub threads : kept.threads ≡ scene.threads
     pub objects : kept.objects ≡ scene.objects
-    pub views : kept.views ≡ scene.views
     pub lazies : kept.lazies ≡ scene.lazies
     pub max_threads : kept.max_threads ≡ scene.max_threads
 
@@ -55,7 +56,8 @@ module _ {D S : Type 0} where
   abbrev pub GrowsFrom : Noted D S → Noted D S → Type 0
   GrowsFrom old new = (k : ℕ) (c : List Choice) → slice_get old.led_by k ≡ Some c → slice_get new.led_by k ≡ Some c
 
-  -- This is kept of a run that stands at the first branch point of an operation, where its search explores; and that is its state.
+  -- This is kept of a run that stands at the first branch point of an operation, where its search explores, with views in the order of
+  -- its own; and that is its state.
   pub record IsKeptOf (kept : Kept D S) (key : Key D S) : Type 0 where
     pub run : Progress D
     pub path : Route
@@ -64,7 +66,9 @@ module _ {D S : Type 0} where
     pub led : Leads first_points moment.course.world.points
     pub first : moment.more ≡ further_branches
     pub explores : moment.course.exploring ≡ On
-    pub copied : kept ≡ state_in run moment.bodies
+    pub views : Views
+    pub order : IsInOrder run.state.scene.views views
+    pub copied : kept ≡ state_in run moment.bodies views
     pub state : key ≡ (Some (state_of seen_at moment), [])
 
   -- Each that was noted is kept of a run that stood, after the choices beside it, in the state that the key says.

@@ -1,6 +1,7 @@
 -- What has to be kept of a body's state: of its points what is seen of them, and whose turn it is where the search doesn't explore.
-use Rattle.std.specs.Prelude.{ℕ, Bool, List, [], ◌⊎◌}
+use Rattle.std.specs.Prelude.{ℕ, ◌≡◌, Bool, true, List, [], ◌⊎◌}
 use Rattle.loom_views.specs.declared.rt.failure.FailureKind.{FailureKind}
+use Rattle.loom_views.specs.declared.rt.failure.FailureKind.TheVariants.{TooManyVersions}
 use Rattle.loom_views.specs.Sight.{Sight as SightOfPoints, seen}
 use Rattle.loom_views.specs.Views.{Points}
 use Rattle.loom_objects.specs.declared.choice.Choice.{Choice}
@@ -17,9 +18,10 @@ use Rattle.loom_engine.specs.Covering.Points.{TellsMoves, Sight, sight}
 use Rattle.loom_engine.specs.Covering.Seen.{without_turn}
 use Rattle.loom_engine.specs.Covering.States.{AreLimits, state_after}
 
--- What is seen of points, which the views that are kept of them say, tells their moves.
+-- What is seen of points, which the views that are kept of them say, tells their moves. How often a thread has raised its version isn't
+-- seen, so that there may be too many versions is a limit.
 abbrev pub SightMovesLaw : Type 0
-SightMovesLaw = (limits : FailureKind → Bool) → TellsMoves limits seen
+SightMovesLaw = (limits : FailureKind → Bool) → limits TooManyVersions ≡ true → TellsMoves limits seen
 
 -- what is seen of the machine's state at a schedule
 abbrev pub seen_at : {D : Type 0} → Bool → World D → Sight D (SightOfPoints ⊎ Points)

@@ -76,7 +76,7 @@ pub fn points_tell_their_moves()
     ensures { ThemselvesLaw }
 {}
 
-/// What is seen of points, which the views that are kept of them say, tells their moves (own).
+/// What is seen of points, which is the order of the counts that are kept of them, tells their moves, too many versions aside (own).
 pub fn sight_tells_their_moves()
     ensures { SightMovesLaw }
 {}

@@ -7,6 +7,7 @@ pub mod ways;
 
 ghost use Rattle.std.specs.Prelude.{◌≡◌, [], IfOk, IfSome, IsTrue, length, slice_get, Some};
 ghost use Rattle.loom_engine.specs.Covering.Kept.{HasScene, NotesAs, state_in};
+ghost use Rattle.loom_views.specs.InOrder.{IsInOrder};
 ghost use Rattle.loom_engine.specs.Path.Route.{chosen};
 
 use crate::rt::execution::Execution;
@@ -39,15 +40,20 @@ pub struct State<D, B> {
 }
 
 impl<D: Data + Same, B: Body + Same> State<D, B> {
-    /// A copy of where a run stands. An error where memory is refused.
-    fn of(alloc: Global, execution: &Execution<D>, bodies: &[B]) -> Result<State<D, B>, AllocError>
-        ensures { IfOk result (λ state. state ≡ state_in execution.now.run bodies.now) }
+    /// A copy of where a run stands, with these views in place of its own. An error where memory is refused.
+    fn of(
+        alloc: Global,
+        execution: &Execution<D>,
+        bodies: &[B],
+        views: Views,
+    ) -> Result<State<D, B>, AllocError>
+        ensures { IfOk result (λ state. state ≡ state_in execution.now.run bodies.now views) }
     {
         let scene = execution.scene();
         Ok(State {
             threads: copied_all(alloc, scene.threads().as_slice())?,
             objects: copied_all(alloc, scene.objects().as_slice())?,
-            views: scene.views().try_clone(alloc)?,
+            views,
             lazies: copied_all(alloc, scene.lazies().as_slice())?,
             max_threads: scene.max_threads(),
             ordered: execution.ordered_threads(),
@@ -55,14 +61,11 @@ impl<D: Data + Same, B: Body + Same> State<D, B> {
         })
     }
 
-    /// Whether it has what the scene has, but for whose turn it is.
+    /// Whether it has what the scene has, but for whose turn it is, and for its views.
     fn has_scene(&self, scene: &Scene<D>) -> bool
         ensures { IsTrue result → HasScene self.now scene.now }
     {
         if self.max_threads != scene.max_threads() {
-            return false;
-        }
-        if !self.views.is_same(scene.views()) {
             return false;
         }
         if !are_equal(self.threads.as_slice(), scene.threads().as_slice()) {
@@ -74,11 +77,14 @@ impl<D: Data + Same, B: Body + Same> State<D, B> {
         are_equal(self.lazies.as_slice(), scene.lazies().as_slice())
     }
 
-    /// Whether the run stands in this state.
+    /// Whether the run stands in this state, with these views in place of its own.
     #[tactic(auto, using(crate::proofs::Covering::Kept::is_state_in))]
-    fn is_at(&self, execution: &Execution<D>, bodies: &[B]) -> bool
-        ensures { IsTrue result → self.now ≡ state_in execution.now.run bodies.now }
+    fn is_at(&self, execution: &Execution<D>, bodies: &[B], views: &Views) -> bool
+        ensures { IsTrue result → self.now ≡ state_in execution.now.run bodies.now views.now }
     {
+        if !self.views.is_same(views) {
+            return false;
+        }
         if self.ordered != execution.ordered_threads() {
             return false;
         }
@@ -156,16 +162,23 @@ impl<D: Data + Same, B: Body + Same> States<D, B> {
         self.led_by.as_slice()
     }
 
-    /// The number of the state that the run is in, if it was noted.
-    pub fn find(&self, execution: &Execution<D>, bodies: &[B]) -> Option<usize>
-        ensures { IfSome result (λ number. slice_get self.now.states number ≡ Some (state_in execution.now.run bodies.now)) }
+    /// The views of the run by the ranks of their counts, by which its state is known. An error where memory is refused.
+    pub fn ranked_views(&self, execution: &Execution<D>) -> Result<Views, AllocError>
+        ensures { IfOk result (λ views. IsInOrder execution.now.run.state.scene.views views) }
     {
-        let mut number = self.last_of(list_of(execution));
+        execution.scene().views().ranked(self.alloc)
+    }
+
+    /// The number of the state that the run is in, if it was noted, with these views in place of its own.
+    pub fn find(&self, execution: &Execution<D>, bodies: &[B], views: &Views) -> Option<usize>
+        ensures { IfSome result (λ number. slice_get self.now.states number ≡ Some (state_in execution.now.run bodies.now views.now)) }
+    {
+        let mut number = self.last_of(list_of(views));
         for _ in 0..self.states.len() {
             if number == 0 || number > self.states.len() {
                 return None;
             }
-            if self.states.at(number - 1).is_at(execution, bodies) {
+            if self.states.at(number - 1).is_at(execution, bodies, views) {
                 return Some(number - 1);
             }
             number = self.one_before(number - 1);
@@ -173,22 +186,24 @@ impl<D: Data + Same, B: Body + Same> States<D, B> {
         None
     }
 
-    /// Notes the state of the run, which came to it along the path, if there may be one more. An error where memory is refused.
+    /// Notes the state of the run, which came to it along the path, with these views in place of its own, if there may be one more. An
+    /// error where memory is refused.
     pub fn note(
         &mut self,
         execution: &Execution<D>,
         bodies: &[B],
+        views: Views,
         path: &Path,
     ) -> Result<(), AllocError>
-        ensures { IfOk result (λ _. NotesAs (state_in execution.now.run bodies.now) (chosen path.now) self.old self.new) }
+        ensures { IfOk result (λ _. NotesAs (state_in execution.now.run bodies.now views) (chosen path.now) self.old self.new) }
     {
         if self.states.len() >= self.most {
             return Ok(());
         }
-        let state = State::of(self.alloc, execution, bodies)?;
+        let list = list_of(&views);
+        let state = State::of(self.alloc, execution, bodies, views)?;
         let choices = path.choices(self.alloc)?;
         self.led_by.push(Sequence::from_vec(choices))?;
-        let list = list_of(execution);
         let before = self.last_of(list);
         self.before.push(before)?;
         self.states.push(state)?;
@@ -215,7 +230,7 @@ impl<D: Data + Same, B: Body + Same> States<D, B> {
     }
 }
 
-/// The list in which the state of the run is.
-fn list_of<D: Data>(execution: &Execution<D>) -> usize {
-    (execution.scene().views().digest() % 65_536) as usize
+/// The list in which a state with these views is.
+fn list_of(views: &Views) -> usize {
+    (views.digest() % 65_536) as usize
 }

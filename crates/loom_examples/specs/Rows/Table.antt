@@ -70,7 +70,9 @@ update_rows =
 
 -- of threads that wait for flags
 abbrev pub flag_rows : List Named
-flag_rows = bounded (codes "acq_rel") atomics.acq_rel ∷ []
+flag_rows =
+    bounded (codes "acq_rel") atomics.acq_rel ∷ script (codes "spinners") atomics.spinners ∷
+    script (codes "spinners_forever") atomics.spinners_forever ∷ []
 
 -- about atomics and fences
 abbrev pub atomic_rows : List Named

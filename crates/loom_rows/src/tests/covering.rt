@@ -13,7 +13,7 @@ use loom_examples::bodies::updates::Updater;
 use loom_examples::measured::{all_bodies, body_of};
 use loom_examples::rows::cover::ShownCovered;
 use loom_examples::rows::settings::{Builds, Settings};
-use loom_examples::rows::{Checked, Row, WHOLE};
+use loom_examples::rows::{Checked, Row, WHOLE, row_of};
 use loom_examples::scripts::step::{END, EXIT, Step, Value};
 use loom_objects::operation::{AtomicOp, MutexOp, Request, ThreadOp};
 use loom_plain::run::Ending;
@@ -67,6 +67,23 @@ fn is_failing(found: &[Found]) -> bool {
     }
 }
 
+// Whether the last run was longer than a run may be. A search that remembers states may say more of it.
+fn is_cut(found: &[Found]) -> bool {
+    let Some(run) = found.last() else {
+        return false;
+    };
+    match run.ending {
+        Ending::Failed(kind) => matches!(
+            kind,
+            FailureKind::TooManyBranches
+                | FailureKind::TooManySteps
+                | FailureKind::TooManyVersions
+                | FailureKind::TooManyStores
+        ),
+        Ending::Ended(_) => false,
+    }
+}
+
 // Whether a check that remembers states says what the whole search does, which made these runs.
 fn is_as_whole<B: Body<Data = u64> + Same>(
     alloc: Global,
@@ -89,8 +106,10 @@ fn is_as_whole<B: Body<Data = u64> + Same>(
     );
     match covered {
         Ok(Covered::Complete { .. }) => {
-            !is_failing(found) && are_values_same(alloc, found, ended.found.as_slice())
+            is_cut(found)
+                || !is_failing(found) && are_values_same(alloc, found, ended.found.as_slice())
         }
+        Ok(Covered::Livelock { .. }) => is_cut(found),
         Ok(
             Covered::Failed {
                 failure,
@@ -101,7 +120,7 @@ fn is_as_whole<B: Body<Data = u64> + Same>(
             is_failing(found)
                 && is_replayed(alloc, settings, body, failure.kind, choices.as_slice())
         }
-        Ok(Covered::Livelock { .. } | Covered::Stopped { .. }) | Err(_) => false,
+        Ok(Covered::Stopped { .. }) | Err(_) => false,
     }
 }
 
@@ -279,6 +298,15 @@ fn other_bodies_are_covered(rt: HostRuntime) {
     );
 }
 
+// What the program prints of the script where it is covered.
+fn line_of(rt: &(impl Abort + AllocGlobal), settings: Settings, steps: &'static [Step]) -> Page {
+    let mut page = Page::new(rt.alloc());
+    if let Ok(covered) = settings.builder().cover(rt.alloc(), &script(rt, steps)) {
+        page.add_shown(&ShownCovered(&covered));
+    }
+    page
+}
+
 // Bodies that are measured, and what the program prints where they are covered.
 static COUNTS: [(&str, &str); 5] = [
     ("three_threads", "complete 91 met 2625 states 2249"),
@@ -292,14 +320,36 @@ static COUNTS: [(&str, &str); 5] = [
 fn so_many_states_are_met(rt: HostRuntime) {
     let bodies = all_bodies(rt.alloc()).expect(&rt, "no memory for the bodies");
     for (name, text) in &COUNTS {
-        let mut page = Page::new(rt.alloc());
-        if let Some(measured) = body_of(bodies.as_slice(), *name) {
-            let body = script(&rt, measured.steps);
-            if let Ok(covered) = measured.settings.builder().cover(rt.alloc(), &body) {
-                page.add_shown(&ShownCovered(&covered));
-            }
-        }
-        same(&rt, page.text.as_str(), *text, *name);
+        let line = match body_of(bodies.as_slice(), *name) {
+            Some(measured) => line_of(&rt, measured.settings, measured.steps),
+            None => Page::new(rt.alloc()),
+        };
+        same(&rt, line.text.as_str(), *text, *name);
+    }
+}
+
+// Rows whose other searches fail by the length of their runs.
+static SPINNING: [(&str, &str); 2] = [
+    ("spinners", "complete 2 met 41 states 34"),
+    ("spinners_forever", "livelock"),
+];
+
+fn line_of_row(rt: &(impl Abort + AllocGlobal), row: &Row) -> Page {
+    match row.checked {
+        Checked::Script(steps) => line_of(rt, row.settings, steps),
+        Checked::Updater(..) => Page::new(rt.alloc()),
+    }
+}
+
+#[test]
+fn who_spins_comes_back(rt: HostRuntime) {
+    let rows = program_rows(&rt);
+    for (name, text) in &SPINNING {
+        let line = match row_of(rows.as_slice(), *name) {
+            Some(row) => line_of_row(&rt, row),
+            None => Page::new(rt.alloc()),
+        };
+        same(&rt, line.text.as_str(), *text, *name);
     }
 }
 
@@ -332,9 +382,6 @@ const TRYING: &[Step] = &[
 
 #[test]
 fn who_tries_for_ever_is_in_a_livelock(rt: HostRuntime) {
-    let mut page = Page::new(rt.alloc());
-    if let Ok(covered) = WHOLE.builder().cover(rt.alloc(), &script(&rt, TRYING)) {
-        page.add_shown(&ShownCovered(&covered));
-    }
-    same(&rt, page.text.as_str(), "livelock t0 t1 t1 t1", "trying");
+    let line = line_of(&rt, WHOLE, TRYING);
+    same(&rt, line.text.as_str(), "livelock t0 t1 t1 t1", "trying");
 }

@@ -10,6 +10,12 @@ static MANY_FENCES: [Case; 2] = [
 
 static MANY_STORES: [Case; 1] = [case!("many_stores", LONG_RUNS, 0, "failed 11 0 65536 choices")];
 
+// Threads that spin come to a run's last node.
+static SPINNING: [Case; 2] = [
+    case!("spinners", DEFAULTS, 0, "failed 9 0 1000 choices"),
+    case!("spinners_forever", WHOLE, 0, "failed 9 0 1000 choices"),
+];
+
 // Runs of three nodes at most.
 const SHORT: Settings = Settings {
     max_branches: 3,
@@ -55,5 +61,6 @@ fn one_store_more_replays(rt: HostRuntime) {
 #[test]
 fn limits_are_reached_and_failures_replay(rt: HostRuntime) {
     find(&rt, &MANY_FENCES);
+    find(&rt, &SPINNING);
     find(&rt, &FAILURES);
 }

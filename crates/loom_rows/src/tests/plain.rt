@@ -69,12 +69,14 @@ static LARGE_BODIES: [(&str, &[Search]); 5] = [
 ];
 
 // The rows with more than 300 runs, and those with more than 60,000 accesses or fences.
-static LARGE: [&str; 13] = [
+static LARGE: [&str; 15] = [
     "rwlock_writer_and_readers",
     "notify_all",
     "orders_equal",
     "three_adds",
     "acq_rel",
+    "spinners",
+    "spinners_forever",
     "fences_then_relaxed",
     "many_locks",
     "too_many_locks",

@@ -1,6 +1,6 @@
 -- First touches in a word.
-use Rattle.std.proofs.Common.{zero, suc, ◌≡◌, ◌≢◌, ℕ, ◌/◌, ◌%◌, ◌^◌, ◌<◌, ◌≤◌, Bool, true, false, not, map, List, [], ◌∷◌, get_or, set, refl, sym, ap, ◌∙◌, arith, ⊎_elim, inl, inr, Some, None}
-use Rattle.std.specs.Prelude.{◌↔◌, IsTrue}
+use Rattle.std.proofs.Common.{zero, suc, ◌≡◌, ◌≢◌, ℕ, ◌/◌, ◌%◌, ◌^◌, ◌<◌, ◌≤◌, Bool, true, false, not, map, List, [], ◌∷◌, get_or, set, refl, sym, ap, ◌∙◌, arith, ⊎_elim, inl, inr, Option, Some, None}
+use Rattle.std.specs.Prelude.{◌↔◌, IfSome, IsTrue, unwrap_or}
 use Rattle.std.specs.List.{list_any}
 use Rattle.std.proofs.lemmas.Bool.{cases_eq, cases_lt, eq-eqb, ne_eqb, leb-false, lt-leb, or_from, or_parts, true_from_ne_false}
 use Rattle.loom_views.specs.Graph.{threads}
@@ -24,6 +24,11 @@ map-set (x ∷ xs) (suc i) v = ap (λ ys. touch_in x ∷ ys) (map-set xs i v)
 
 pub version_in : (n : ℕ) → n ≤ 65534 → touch_in n ≡ Some n
 version_in n l = rw (ne_eqb n 65535 (λ e. absurd (omega (arith, e, l)))) refl
+
+-- what stands for a first touch, or for none, is read again
+pub touch_back : (touch : Option ℕ) → IfSome touch (λ n. n ≤ 65534) → touch_in (unwrap_or touch 65535) ≡ touch
+touch_back None l = refl
+touch_back (Some n) l = version_in n l
 
 pub touches_set : (old word i v : ℕ) → i < 5 → v ≤ 65534 → lane word i ≡ v → ((t : ℕ) → t ≢ i → lane word t ≡ lane old t) → touches_in word ≡ set (touches_in old) i (Some v)
 touches_set old word i v l few e others =
@@ -68,7 +73,7 @@ sooner m n few h = ⊎_elim
     (cases_eq m 65535)
 
 -- the first touch of a thread, by its lane
-touch-at : (word t : ℕ) → t < 5 → get_or (touches_in word) t None ≡ touch_in (lane word t)
+pub touch-at : (word t : ℕ) → t < 5 → get_or (touches_in word) t None ≡ touch_in (lane word t)
 touch-at word zero l = refl
 touch-at word (suc zero) l = refl
 touch-at word (suc (suc zero)) l = refl

@@ -6,8 +6,9 @@
 pub mod reader;
 pub mod touches;
 
-ghost use Rattle.std.specs.Prelude.{◌≡◌, ℕ, ◌+◌, ◌<◌, ◌≤◌, ◌==◌, ◌&&◌, not, min, IsTrue, None, slice_index_or, false, MatchResult, OnErr, Ok, Err, length};
+ghost use Rattle.std.specs.Prelude.{◌≡◌, ℕ, ◌+◌, ◌<◌, ◌≤◌, ◌==◌, ◌&&◌, not, min, IsTrue, None, slice_index_or, false, MatchResult, OnErr, Ok, Err, length, IfSome};
 ghost use Rattle.std.specs.List.{list_any};
+ghost use Rattle.loom_views.specs.InOrder.{PairsTouches, PairsStores, PairsStates, Ranked};
 ghost use Rattle.loom_views.specs.Limits.{highest_version, most_stores};
 ghost use Rattle.loom_views.specs.Versions.{join, join_all};
 ghost use Rattle.loom_views.specs.Atomic.Untouched.{untouched};
@@ -25,9 +26,11 @@ use crate::rt::MAX_ATOMIC_HISTORY;
 pub use crate::rt::atomic::reader::Reader;
 use crate::rt::atomic::touches::Touches;
 use crate::rt::failure::FailureKind;
+use crate::rt::ranks::{Ranks, Standing};
 use crate::rt::synchronize::{Synchronize, ThreadViews};
 use crate::rt::vv::{VersionVec, mixed};
 use crate::same::{Same, are_same};
+use std::alloc::AllocError;
 use std::sync::atomic::Ordering;
 
 /// For each thread, its own version when it first touched a store (loom's `rt/atomic.rs`).
@@ -600,7 +603,91 @@ impl Same for State {
     }
 }
 
+impl FirstSeen {
+    /// Their counts stand too. An error where memory is refused.
+    fn stand(&self, standing: &mut Standing) -> Result<(), AllocError> {
+        self.versions.stand(standing)
+    }
+
+    /// First touches by ranks, if each count has one.
+    fn ranked(&self, ranks: &Ranks) -> Option<FirstSeen>
+        ensures { IfSome result (λ ranked. PairsTouches (Ranked ranks.now) self.now.versions ranked.versions) }
+    {
+        Some(FirstSeen {
+            versions: self.versions.ranked(ranks)?,
+        })
+    }
+}
+
+impl Store {
+    /// Its counts stand too. An error where memory is refused.
+    fn stand(&self, standing: &mut Standing) -> Result<(), AllocError> {
+        standing.add_all(&self.order)?;
+        self.sync.stand(standing)?;
+        self.first_seen.stand(standing)
+    }
+
+    /// The store by ranks, if each count has one.
+    fn ranked(&self, ranks: &Ranks) -> Option<Store>
+        ensures { IfSome result (λ ranked. PairsStores (Ranked ranks.now) self.now ranked) }
+    {
+        Some(Store {
+            value: self.value,
+            order: self.order.ranked(ranks)?,
+            sync: self.sync.ranked(ranks)?,
+            first_seen: self.first_seen.ranked(ranks)?,
+            seq_cst: self.seq_cst,
+        })
+    }
+}
+
+/// The kept stores by ranks, if each count has one.
+fn ranked_stores(
+    stores: &[Store; MAX_ATOMIC_HISTORY],
+    ranks: &Ranks,
+) -> Option<[Store; MAX_ATOMIC_HISTORY]>
+    ensures { IfSome result (λ ranked. (i : ℕ) → i < 7 → PairsStores (Ranked ranks.now) (store_at stores.now i) (store_at ranked i)) }
+{
+    let [zeroth, first, second, third, fourth, fifth, sixth] = stores;
+    Some([
+        zeroth.ranked(ranks)?,
+        first.ranked(ranks)?,
+        second.ranked(ranks)?,
+        third.ranked(ranks)?,
+        fourth.ranked(ranks)?,
+        fifth.ranked(ranks)?,
+        sixth.ranked(ranks)?,
+    ])
+}
+
 impl State {
+    /// Its counts stand too. An error where memory is refused (own).
+    pub fn stand(&self, standing: &mut Standing) -> Result<(), AllocError> {
+        standing.add_all(&self.loaded_at)?;
+        standing.add_all(&self.stored_at)?;
+        standing.add_all(&self.unsync_loaded_at)?;
+        standing.add_all(&self.unsync_mut_at)?;
+        for store in self.stores.as_slice() {
+            store.stand(standing)?;
+        }
+        Ok(())
+    }
+
+    /// The atomic by ranks, if each count has one (own).
+    pub fn ranked(&self, ranks: &Ranks) -> Option<State>
+        ensures { IfSome result (λ ranked. PairsStates (Ranked ranks.now) self.now ranked) }
+    {
+        Some(State {
+            loaded_at: self.loaded_at.ranked(ranks)?,
+            stored_at: self.stored_at.ranked(ranks)?,
+            unsync_loaded_at: self.unsync_loaded_at.ranked(ranks)?,
+            unsync_mut_at: self.unsync_mut_at.ranked(ranks)?,
+            is_mutating: self.is_mutating,
+            stores: ranked_stores(&self.stores, ranks)?,
+            count: self.count,
+        })
+    }
+
     /// A number that depends on what is kept alone (own).
     pub fn digest(&self) -> u64 {
         let mut digest = mixed(self.loaded_at.digest(), self.stored_at.digest());

@@ -3,14 +3,17 @@
 //! A public call speaks of every graph and all accesses that the vectors show. No call moves a thread's views. Where a call
 //! fails, the records are as before.
 
-ghost use Rattle.std.specs.Prelude.{◌≡◌, ℕ, OnErr};
+ghost use Rattle.std.specs.Prelude.{◌≡◌, ℕ, IfSome, OnErr};
+ghost use Rattle.loom_views.specs.InOrder.{PairsRecords, Ranked};
 ghost use Rattle.loom_views.specs.Graph.{Graph, IsChained, Shows};
 ghost use Rattle.loom_views.specs.CellAccesses.{Accesses, new_accesses, read_step, write_step, ShowsAccesses, RecordsAs};
 
 use crate::rt::failure::FailureKind;
+use crate::rt::ranks::{Ranks, Standing};
 use crate::rt::synchronize::ThreadViews;
 use crate::rt::vv::{VersionVec, mixed};
 use crate::same::Same;
+use std::alloc::AllocError;
 
 /// The joined views of a cell's reads, and those of its writes (loom's `rt/cell.rs`).
 #[derive(Clone, Copy)]
@@ -66,6 +69,22 @@ impl Same for AccessRecords {
 }
 
 impl AccessRecords {
+    /// Their counts stand too. An error where memory is refused (own).
+    pub fn stand(&self, standing: &mut Standing) -> Result<(), AllocError> {
+        standing.add_all(&self.reads)?;
+        standing.add_all(&self.writes)
+    }
+
+    /// The records by ranks, if each count has one (own).
+    pub fn ranked(&self, ranks: &Ranks) -> Option<AccessRecords>
+        ensures { IfSome result (λ ranked. PairsRecords (Ranked ranks.now) self.now ranked) }
+    {
+        Some(AccessRecords {
+            reads: self.reads.ranked(ranks)?,
+            writes: self.writes.ranked(ranks)?,
+        })
+    }
+
     /// A number that depends on the records alone (own).
     pub fn digest(&self) -> u64 {
         mixed(self.reads.digest(), self.writes.digest())

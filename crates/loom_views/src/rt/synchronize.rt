@@ -2,6 +2,7 @@
 
 ghost use Rattle.std.specs.Prelude.{◌≡◌, ℕ, ◌<◌, ◌≤◌, ◌↔◌, ◌⊎◌, false, if◌then◌else◌, None, [], length, slice_index};
 ghost use Rattle.std.specs.Option.{IsNone, IfSome};
+ghost use Rattle.loom_views.specs.InOrder.{PairsThreads, PairsVectors, Ranked};
 ghost use Rattle.loom_views.specs.Limits.{highest_version};
 ghost use Rattle.loom_views.specs.Graph.{Graph, IsChained, IsPresent, Shows, raised};
 ghost use Rattle.loom_views.specs.ThreadViews.{ThreadPoints, ShowsThread, with_present, graph_after_raise, graph_after_acquire, graph_after_release_fence, graph_after_spawn, child_points, parent_points, graph_after_load, thread_after_load, graph_after_store};
@@ -9,8 +10,10 @@ ghost use Rattle.std.specs.Bool.{OnTrue, OnFalse};
 ghost use Rattle.loom_views.specs.Versions.{zeros, join, within, raised_at};
 ghost use Rattle.loom_views.specs.Orderings.{is_acquire, is_release};
 
+use crate::rt::ranks::{Ranks, Standing};
 use crate::rt::vv::{VersionVec, mixed};
 use crate::same::Same;
+use std::alloc::AllocError;
 use std::marker::Model;
 use std::sync::atomic::Ordering;
 
@@ -211,6 +214,24 @@ impl Same for Synchronize {
 }
 
 impl ThreadViews {
+    /// Its counts stand too. An error where memory is refused (own).
+    pub fn stand(&self, thread: usize, standing: &mut Standing) -> Result<(), AllocError> {
+        standing.add_all(&self.present)?;
+        standing.add_all(&self.released)?;
+        standing.add_optional(thread, self.last_yield)
+    }
+
+    /// The thread's views by ranks, if each count has one (own).
+    pub fn ranked(&self, thread: usize, ranks: &Ranks) -> Option<ThreadViews>
+        ensures { IfSome result (λ ranked. PairsThreads (Ranked ranks.now) thread self.now ranked) }
+    {
+        Some(ThreadViews {
+            present: self.present.ranked(ranks)?,
+            released: self.released.ranked(ranks)?,
+            last_yield: ranks.rank_optional(thread, self.last_yield)?,
+        })
+    }
+
     /// A number that depends on the views alone (own).
     pub fn digest(&self) -> u64 {
         mixed(self.present.digest(), self.released.digest())
@@ -218,6 +239,20 @@ impl ThreadViews {
 }
 
 impl Synchronize {
+    /// Its counts stand too. An error where memory is refused (own).
+    pub fn stand(&self, standing: &mut Standing) -> Result<(), AllocError> {
+        standing.add_all(&self.happens_before)
+    }
+
+    /// The view by ranks, if each count has one (own).
+    pub fn ranked(&self, ranks: &Ranks) -> Option<Synchronize>
+        ensures { IfSome result (λ ranked. PairsVectors (Ranked ranks.now) self.now ranked) }
+    {
+        Some(Synchronize {
+            happens_before: self.happens_before.ranked(ranks)?,
+        })
+    }
+
     /// A number that depends on the view alone (own).
     pub fn digest(&self) -> u64 {
         self.happens_before.digest()

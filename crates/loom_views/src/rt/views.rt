@@ -6,14 +6,18 @@
 
 pub mod places;
 
-ghost use Rattle.std.specs.Prelude.{◌≡◌, ◌++◌, ◌∷◌, ◌<◌, ◌≤◌, [], Ok, Err, IfOk, OnErr, OnOk, length, slice_get};
+ghost use Rattle.std.specs.Prelude.{ℕ, IfSome, ◌≡◌, ◌++◌, ◌∷◌, ◌<◌, ◌≤◌, [], Ok, Err, IfOk, OnErr, OnOk, length, slice_get};
 ghost use Rattle.loom_views.specs.declared.rt.failure.FailureKind.TheVariants.{Misuse};
+ghost use Rattle.loom_views.specs.declared.rt.views.Kept.TheVariants.{Point};
+ghost use Rattle.loom_views.specs.InOrder.{IsInOrder, PairAll, PairsAt, PairsPlaces, PairsThreads, PairsVectors, PairsViews, Ranked};
+ghost use Rattle.loom_views.specs.Versions.{zeros};
 ghost use Rattle.loom_views.specs.Views.{Points, ShowsViews, MovesAs, LoadsAs, StoresAs, OffersAs, IsSlotKept, opening, points_after_raise, points_after_acquire, points_after_release, points_after_release_fence, points_after_yield, points_with_point, points_with_stamp, points_after_stamp, points_after_stamp_release, points_after_stamp_acquire, points_after_spawn, points_after_join, points_with_atomic, points_after_load, points_after_store, points_after_update_read, points_after_update_write, points_after_update_fail, points_after_unsync_load, points_after_with_mut, points_after_with_mut_end, points_after_acquire_fence, points_after_meet_global, points_after_fence, points_with_cell, points_after_read, points_after_write, readable_slots_of};
 
 use crate::rt::atomic::State;
 use crate::rt::atomic::reader::Reader;
 use crate::rt::cell::AccessRecords;
 use crate::rt::failure::FailureKind;
+use crate::rt::ranks::{Ranks, Standing};
 use crate::rt::synchronize::{Synchronize, ThreadViews};
 use crate::rt::views::places::Places;
 use crate::rt::vv::{VersionVec, mixed};
@@ -567,6 +571,26 @@ impl Same for Kept {
 }
 
 impl Kept {
+    /// Its counts stand too. An error where memory is refused.
+    fn stand(&self, standing: &mut Standing) -> Result<(), AllocError> {
+        match self {
+            Kept::Point(view) => view.stand(standing),
+            Kept::Atomic(state) => state.stand(standing),
+            Kept::Cell(records) => records.stand(standing),
+        }
+    }
+
+    /// What is kept by ranks, if each count has one.
+    fn ranked(&self, ranks: &Ranks) -> Option<Kept>
+        ensures { IfSome result (λ ranked. PairsPlaces (Ranked ranks.now) self.now ranked) }
+    {
+        match self {
+            Kept::Point(view) => Some(Kept::Point(view.ranked(ranks)?)),
+            Kept::Atomic(state) => Some(Kept::Atomic(state.ranked(ranks)?)),
+            Kept::Cell(records) => Some(Kept::Cell(records.ranked(ranks)?)),
+        }
+    }
+
     /// A number that depends on what is kept alone.
     fn digest(&self) -> u64 {
         match self {
@@ -601,6 +625,60 @@ impl Views {
         })
     }
 
+    /// Views that rules see the same of: with each count of a thread by its rank among those of the thread that stand somewhere
+    /// in these. An error where memory is refused (own).
+    #[tactic(auto, using(crate::proofs::Sight::InOrder::in_order_itself))]
+    pub fn ranked(&self, alloc: Global) -> Result<Views, AllocError>
+        ensures { IfOk result (λ ranked. IsInOrder self.now ranked) }
+    {
+        let standing = self.standing(alloc)?;
+        let ranks = standing.ranks()?;
+        match self.by_ranks(alloc, &ranks)? {
+            Some(ranked) => Ok(ranked),
+            None => self.try_clone(alloc),
+        }
+    }
+
+    /// Which counts stand in these views. An error where memory is refused.
+    fn standing(&self, alloc: Global) -> Result<Standing, AllocError> {
+        let mut standing = Standing::new(alloc)?;
+        standing.add_all(&self.global)?;
+        for thread in 0..MAX_THREADS {
+            self.threads[thread].stand(thread, &mut standing)?;
+        }
+        stand_places(self.places.as_slice(), &mut standing)?;
+        stand_stamps(self.stamps.as_slice(), &mut standing)?;
+        Ok(standing)
+    }
+
+    /// The views by these ranks, if each count has one. An error where memory is refused.
+    fn by_ranks(&self, alloc: Global, ranks: &Ranks) -> Result<Option<Views>, AllocError>
+        ensures { IfOk result (λ found. IfSome found (λ ranked. PairsViews (Ranked ranks.now) self.now ranked)) }
+    {
+        if !ranks.have_zeros() {
+            return Ok(None);
+        }
+        let (Some(threads), Some(global)) = (
+            ranked_threads(&self.threads, ranks),
+            self.global.ranked(ranks),
+        ) else {
+            return Ok(None);
+        };
+        let Some(places) = ranked_places(alloc, self.places.as_slice(), ranks)? else {
+            return Ok(None);
+        };
+        let Some(stamps) = ranked_stamps(alloc, self.stamps.as_slice(), ranks)? else {
+            return Ok(None);
+        };
+        Ok(Some(Views {
+            threads,
+            count: self.count,
+            places,
+            stamps,
+            global,
+        }))
+    }
+
     /// A number that depends on the views alone: by it they are found again (own).
     pub fn digest(&self) -> u64 {
         let mut digest = self.global.digest();
@@ -612,6 +690,75 @@ impl Views {
         }
         digest
     }
+}
+
+/// The counts of what is kept of objects stand too. An error where memory is refused.
+fn stand_places(places: &[Kept], standing: &mut Standing) -> Result<(), AllocError> {
+    for kept in places {
+        kept.stand(standing)?;
+    }
+    Ok(())
+}
+
+/// So do those of stamps.
+fn stand_stamps(stamps: &[Synchronize], standing: &mut Standing) -> Result<(), AllocError> {
+    for stamp in stamps {
+        stamp.stand(standing)?;
+    }
+    Ok(())
+}
+
+/// The views of threads by ranks, if each count has one.
+fn ranked_threads(
+    threads: &[ThreadViews; MAX_THREADS],
+    ranks: &Ranks,
+) -> Option<[ThreadViews; MAX_THREADS]>
+    ensures { IfSome result (λ ranked. (t : ℕ) → t < 5 → PairsAt (Ranked ranks.now) (PairsThreads (Ranked ranks.now) t) (slice_get threads.now t) (slice_get ranked t)) }
+{
+    let [main, first, second, third, fourth] = threads;
+    Some([
+        main.ranked(0, ranks)?,
+        first.ranked(1, ranks)?,
+        second.ranked(2, ranks)?,
+        third.ranked(3, ranks)?,
+        fourth.ranked(4, ranks)?,
+    ])
+}
+
+/// What is kept of objects by ranks, if each count has one. An error where memory is refused.
+fn ranked_places(
+    alloc: Global,
+    places: &[Kept],
+    ranks: &Ranks,
+) -> Result<Option<Places>, AllocError>
+    ensures { IfOk result (λ found. IfSome found (λ ranked. PairAll (Ranked ranks.now) (PairsPlaces (Ranked ranks.now)) places.now ranked)) }
+{
+    let mut ranked = Places::new(alloc);
+    for kept in places {
+        let Some(one) = kept.ranked(ranks) else {
+            return Ok(None);
+        };
+        ranked.push(one)?;
+    }
+    Ok(Some(ranked))
+}
+
+/// So of stamps.
+fn ranked_stamps(
+    alloc: Global,
+    stamps: &[Synchronize],
+    ranks: &Ranks,
+) -> Result<Option<Sequence<Synchronize>>, AllocError>
+    ensures { IfOk result (λ found. IfSome found (λ ranked. PairAll (Ranked ranks.now) (PairsVectors (Ranked ranks.now)) stamps.now ranked)) }
+{
+    let mut ranked = Vec::new(alloc);
+    for stamp in stamps {
+        let Some(one) = stamp.ranked(ranks) else {
+            return Ok(None);
+        };
+        ranked.push(one)?;
+    }
+    Ok(Some(Sequence::from_vec(ranked)))
 }
 
 /// A copy of the views of threads.

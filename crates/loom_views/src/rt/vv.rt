@@ -1,7 +1,8 @@
 //! Version vectors: how often each thread has raised its version, as far as a view reaches. They are plain values; no call
 //! here takes memory.
 
-ghost use Rattle.std.specs.Prelude.{◌≡◌, ℕ, ◌+◌, ◌<◌, ◌≤◌, ◌↔◌, false, IsTrue, slice_index, MatchOption};
+ghost use Rattle.std.specs.Prelude.{◌≡◌, ◌≢◌, ℕ, ◌+◌, ◌<◌, ◌≤◌, ◌↔◌, false, IsTrue, IfSome, slice_index, MatchOption};
+ghost use Rattle.loom_views.specs.InOrder.{PairsVectors, Ranked};
 ghost use Rattle.std.specs.Bool.{OnTrue, OnFalse};
 ghost use Rattle.loom_views.specs.Lanes.{IsLaidOut};
 ghost use Rattle.loom_views.specs.Limits.{highest_version};
@@ -9,6 +10,7 @@ ghost use Rattle.loom_views.specs.Versions.{IsCounted, zeros, join, within, rais
 ghost use Rattle.loom_views.specs.VersionOrder.{versions_partial_equiv, versions_equiv, versions_order};
 
 use crate::rt::MAX_THREADS;
+use crate::rt::ranks::Ranks;
 use crate::same::Same;
 use std::cmp::Ordering;
 use std::marker::Model;
@@ -123,6 +125,30 @@ impl VersionVec {
         ensures componentwise { IsTrue result ↔ ((t : ℕ) → t < 5 → slice_index self.now t ≤ slice_index other.now t) }
     {
         other.ahead(self).is_none()
+    }
+}
+
+impl VersionVec {
+    /// Another count for a thread.
+    fn set(&mut self, thread: usize, count: u16)
+        requires thread { thread < 5 }
+        requires counted { count ≤ highest_version }
+        ensures set { slice_index self.new thread ≡ count }
+        ensures others { (t : ℕ) → t < 5 → t ≢ thread → slice_index self.new t ≡ slice_index self.old t }
+    {
+        self.word = lanes::set(self.word, thread, count);
+    }
+
+    /// The ranks of its counts, if each has one (own).
+    pub fn ranked(&self, ranks: &Ranks) -> Option<VersionVec>
+        ensures { IfSome result (λ ranked. PairsVectors (Ranked ranks.now) self.now ranked) }
+    {
+        let mut ranked = *self;
+        for thread in 0..MAX_THREADS {
+            let rank = ranks.rank(thread, self.version(thread))?;
+            ranked.set(thread, rank);
+        }
+        Some(ranked)
     }
 }
 

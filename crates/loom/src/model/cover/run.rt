@@ -1,11 +1,10 @@
 //! One run of a search that remembers states, along its path. Where an operation comes to its first branch point past the path's
 //! nodes, and the run explores there, its state is looked up: if it was noted the run is given up, and otherwise it is noted.
 ghost use Rattle.std.specs.Prelude.{◌≡◌, ◌≤◌, ◌+◌, [], None, IfOk, OnOk};
-ghost use Rattle.loom_engine.specs.Covering.Kept.{state_in};
 ghost use Rattle.loom_engine.specs.Path.Route.{IsAtStart, IsSameSearch};
 ghost use Rattle.loom_engine.specs.Trees.Meeting.{whole_search};
 ghost use Rattle.loom_objects.specs.declared.operation.Reply.TheVariants.{Start};
-ghost use Rattle.loom.specs.Model.Cover.{AreNoted, ComesTo, EndsWith, IsAtBranch, IsEndBy, IsEndOf, IsHanding, IsUnderWay, LooksUp, Noting, StaysOpen, noting};
+ghost use Rattle.loom.specs.Model.Cover.{AreNoted, ComesTo, EndsWith, IsAtBranch, IsEndBy, IsEndOf, IsHanding, IsUnderWay, LooksUpRun, Noting, StaysOpen, noting};
 
 use crate::model::run::{Room, add_child};
 use loom_engine::rt::execution::{Begun, Execution, Limits};
@@ -187,6 +186,7 @@ where
 
 /// Looks the state of the run up, if it explores past its path's nodes. If the state wasn't noted it is noted. An error where memory
 /// is refused.
+#[tactic(auto, using(crate::proofs::ModelLemmas::Covering::not_looked_up))]
 fn look_up<B: Body + Same>(
     execution: &Execution<B::Data>,
     bodies: &[B],
@@ -195,7 +195,7 @@ fn look_up<B: Body + Same>(
 ) -> Result<Found, AllocError>
 where
     B::Data: Same,
-    ensures { IfOk result (λ found. LooksUp (state_in execution.now.run bodies.now) path.now states.old found states.new) }
+    ensures { IfOk result (λ found. LooksUpRun execution.now.run bodies.now path.now states.old found states.new) }
 {
     if !path.explores_now() {
         return Ok(Found::New);
@@ -203,9 +203,10 @@ where
     if !path.is_used_up() {
         return Ok(Found::New);
     }
-    if let Some(number) = states.find(execution, bodies) {
+    let views = states.ranked_views(execution)?;
+    if let Some(number) = states.find(execution, bodies, &views) {
         return Ok(Found::Known(number));
     }
-    states.note(execution, bodies, path)?;
+    states.note(execution, bodies, views, path)?;
     Ok(Found::New)
 }

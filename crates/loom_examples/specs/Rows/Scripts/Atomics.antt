@@ -182,3 +182,24 @@ acq_rel =
     Label (codes "third") ∷ Do 0 (op.Atomic (atomic.Load 1 Acquire)) ∷ UnlessTo 0 1 (codes "yield") ∷
     Do 1 (op.Atomic (atomic.Load 0 Acquire)) ∷ Do 0 (op.Thread (threads.Finish (Held 1))) ∷
     JumpTo (codes "exit") ∷ Label (codes "yield") ∷ yield ∷ JumpTo (codes "third") ∷ []
+
+-- Main and a thread each raise a flag, and then wait for the other's without a yield. Main joins the thread.
+abbrev pub spinners : List Written
+spinners =
+    Do 0 (op.Atomic (atomic.New numbers.Bool 0)) ∷ Do 1 (op.Atomic (atomic.New numbers.Bool 0)) ∷
+    SpawnAt 2 (codes "child") ∷ Do 0 (op.Atomic (atomic.Store 0 1 Release)) ∷ Label (codes "main waits") ∷
+    Do 0 (op.Atomic (atomic.Load 1 Acquire)) ∷ UnlessTo 0 1 (codes "main waits") ∷
+    Do 0 (op.Thread (threads.Join 2 2)) ∷ Do 0 (op.Thread (threads.Finish (Plain 0))) ∷ exit ∷ end ∷
+    Label (codes "child") ∷ Do 0 (op.Atomic (atomic.Store 1 1 Release)) ∷ Label (codes "child waits") ∷
+    Do 0 (op.Atomic (atomic.Load 0 Acquire)) ∷ UnlessTo 0 1 (codes "child waits") ∷
+    Do 0 (op.Thread (threads.Finish (Plain 0))) ∷ exit ∷ end ∷ []
+
+-- Main and a thread wait for flags that nobody raises.
+abbrev pub spinners_forever : List Written
+spinners_forever =
+    Do 0 (op.Atomic (atomic.New numbers.Bool 0)) ∷ Do 1 (op.Atomic (atomic.New numbers.Bool 0)) ∷
+    SpawnAt 2 (codes "child") ∷ Label (codes "main waits") ∷ Do 0 (op.Atomic (atomic.Load 1 Acquire)) ∷
+    UnlessTo 0 1 (codes "main waits") ∷ Do 0 (op.Thread (threads.Join 2 2)) ∷
+    Do 0 (op.Thread (threads.Finish (Plain 0))) ∷ exit ∷ end ∷
+    Label (codes "child") ∷ Do 0 (op.Atomic (atomic.Load 0 Acquire)) ∷ UnlessTo 0 1 (codes "child") ∷
+    Do 0 (op.Thread (threads.Finish (Plain 0))) ∷ exit ∷ end ∷ []

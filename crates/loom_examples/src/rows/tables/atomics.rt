@@ -339,6 +339,49 @@ pub const ACQ_REL: &[Step] = &[
     Step::JumpTo("third"),
 ];
 
+/// Main and a thread each raise a flag, and then wait for the other's without a yield. Main joins the thread.
+pub const SPINNERS: &[Step] = &[
+    Step::Do(0, Request::Atomic(AtomicOp::New(Numbers::Bool, 0))),
+    Step::Do(1, Request::Atomic(AtomicOp::New(Numbers::Bool, 0))),
+    Step::SpawnAt(2, "child"),
+    Step::Do(0, Request::Atomic(AtomicOp::Store(0, 1, Release))),
+    Step::Label("main waits"),
+    Step::Do(0, Request::Atomic(AtomicOp::Load(1, Acquire))),
+    Step::UnlessTo(0, 1, "main waits"),
+    Step::Do(0, Request::Thread(ThreadOp::Join(2, 2))),
+    Step::Do(0, Request::Thread(ThreadOp::Finish(Value::Plain(0)))),
+    EXIT,
+    END,
+    Step::Label("child"),
+    Step::Do(0, Request::Atomic(AtomicOp::Store(1, 1, Release))),
+    Step::Label("child waits"),
+    Step::Do(0, Request::Atomic(AtomicOp::Load(0, Acquire))),
+    Step::UnlessTo(0, 1, "child waits"),
+    Step::Do(0, Request::Thread(ThreadOp::Finish(Value::Plain(0)))),
+    EXIT,
+    END,
+];
+
+/// Main and a thread wait for flags that nobody raises.
+pub const SPINNERS_FOREVER: &[Step] = &[
+    Step::Do(0, Request::Atomic(AtomicOp::New(Numbers::Bool, 0))),
+    Step::Do(1, Request::Atomic(AtomicOp::New(Numbers::Bool, 0))),
+    Step::SpawnAt(2, "child"),
+    Step::Label("main waits"),
+    Step::Do(0, Request::Atomic(AtomicOp::Load(1, Acquire))),
+    Step::UnlessTo(0, 1, "main waits"),
+    Step::Do(0, Request::Thread(ThreadOp::Join(2, 2))),
+    Step::Do(0, Request::Thread(ThreadOp::Finish(Value::Plain(0)))),
+    EXIT,
+    END,
+    Step::Label("child"),
+    Step::Do(0, Request::Atomic(AtomicOp::Load(0, Acquire))),
+    Step::UnlessTo(0, 1, "child"),
+    Step::Do(0, Request::Thread(ThreadOp::Finish(Value::Plain(0)))),
+    EXIT,
+    END,
+];
+
 static FUNCTIONS: [Row; 4] = [
     row!("u8_functions", U8_FUNCTIONS),
     row!("i8_functions", I8_FUNCTIONS),
@@ -398,9 +441,13 @@ pub fn updates() -> &'static [Row]
     &UPDATES
 }
 
-static FLAGS: [Row; 1] = [row!("acq_rel", ACQ_REL, ONE_PREEMPTION)];
+static FLAGS: [Row; 3] = [
+    row!("acq_rel", ACQ_REL, ONE_PREEMPTION),
+    row!("spinners", SPINNERS),
+    row!("spinners_forever", SPINNERS_FOREVER),
+];
 
-/// The row of threads that wait for flags.
+/// The rows of threads that wait for flags.
 pub fn flags() -> &'static [Row]
     ensures { map named result.now ≡ flag_rows }
 {

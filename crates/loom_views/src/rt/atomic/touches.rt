@@ -1,12 +1,16 @@
 //! The version of each thread when it first touched a store, as one word (own).
 
-ghost use Rattle.std.specs.Prelude.{◌≡◌, ◌<◌, ◌≤◌, None, Some, slice_index_or, slice_set};
+ghost use Rattle.std.specs.Prelude.{◌≡◌, ◌≢◌, ◌<◌, ◌≤◌, ℕ, IfSome, None, Some, slice_index_or, slice_set};
 ghost use Rattle.loom_views.specs.Atomic.Ring.{is_touch_in};
 ghost use Rattle.loom_views.specs.Atomic.Untouched.{untouched};
+ghost use Rattle.loom_views.specs.InOrder.{PairsTouches, Ranked};
 ghost use Rattle.loom_views.specs.Limits.{highest_version};
 
+use crate::rt::MAX_THREADS;
+use crate::rt::ranks::{Ranks, Standing};
 use crate::rt::vv::{VersionVec, lanes};
 use crate::same::Same;
+use std::alloc::AllocError;
 use std::marker::Model;
 
 // in the lane of a thread that hasn't touched the store, and in those of no thread: more than any version
@@ -75,5 +79,37 @@ impl Touches {
 impl Same for Touches {
     fn is_same(&self, other: &Touches) -> bool {
         self.word == other.word
+    }
+}
+
+impl Touches {
+    /// Another first touch of the thread, or none.
+    fn put(&mut self, thread: usize, version: Option<u16>)
+        requires thread_in { thread < 5 }
+        requires counted { IfSome version (λ count. count ≤ highest_version) }
+        ensures put { slice_index_or self.new thread None ≡ version }
+        ensures others { (t : ℕ) → t < 5 → t ≢ thread → slice_index_or self.new t None ≡ slice_index_or self.old t None }
+    {
+        self.word = lanes::set(self.word, thread, version.unwrap_or(UNTOUCHED));
+    }
+
+    /// Their counts stand too. An error where memory is refused (own).
+    pub fn stand(&self, standing: &mut Standing) -> Result<(), AllocError> {
+        for thread in 0..MAX_THREADS {
+            standing.add_optional(thread, self.at(thread))?;
+        }
+        Ok(())
+    }
+
+    /// First touches by ranks, if each count has one (own).
+    pub fn ranked(&self, ranks: &Ranks) -> Option<Touches>
+        ensures { IfSome result (λ ranked. PairsTouches (Ranked ranks.now) self.now ranked) }
+    {
+        let mut ranked = *self;
+        for thread in 0..MAX_THREADS {
+            let rank = ranks.rank_optional(thread, self.at(thread))?;
+            ranked.put(thread, rank);
+        }
+        Some(ranked)
     }
 }

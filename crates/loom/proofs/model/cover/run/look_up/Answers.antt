@@ -5,10 +5,10 @@ pub returns-in-Some : goal.returns-in-Some
 returns-in-Some g c =
     let explores : c.explores_now.result ≡ true = search rules in
     let used : c.is_used_up.result ≡ true = search rules in
-    (rw c.explores_now.ensures at explores, rw c.is_used_up.ensures at used, c.in-Some.ensures, refl)
+    record { views = c.in_ok-views.views; order = c.in_ok-views.ensures; looks = (rw c.explores_now.ensures at explores, rw c.is_used_up.ensures at used, c.in-Some.ensures, refl) }
 
 pub returns : goal.returns
 returns g c =
     let explores : c.explores_now.result ≡ true = search rules in
     let used : c.is_used_up.result ≡ true = search rules in
-    inl (rw c.explores_now.ensures at explores, rw c.is_used_up.ensures at used, c.in_ok-note.ensures)
+    record { views = c.in_ok-views.views; order = c.in_ok-views.ensures; looks = inl (rw c.explores_now.ensures at explores, rw c.is_used_up.ensures at used, c.in_ok-note.ensures) }

@@ -1,0 +1,137 @@
+-- Ranks of counts: a table of them, one count after another, and what they leave of views.
+use Rattle.std.proofs.Common.{zero, suc, ◌≡◌, ℕ, ◌+◌, ◌<◌, List, [], ◌∷◌, ◌++◌, length, take, take-suc, get_or, refl, ap, sym, ◌∙◌, arith, subst, ◌⊎◌, inl, inr, ⊎_elim, Option, Some, None}
+use Rattle.std.specs.Prelude.{nat_le, slice_get}
+use Rattle.std.specs.List.{AllByRecursion}
+use Rattle.std.proofs.lemmas.Bool.{cases_eq, le-leb, lt-leb}
+use Rattle.std.proofs.lemmas.List.{get_or_default, length_push}
+use Rattle.loom_views.specs.InOrder.{AreRising, IsRising, PairsAt, PairsCounts, PairsStores, PairAll, PairsViews, IsInOrder, Ranked, rank_at, rank_in}
+use Rattle.loom_views.specs.declared.rt.views.Views.{Views}
+use Rattle.loom_views.specs.declared.rt.atomic.Store.{Store}
+use Rattle.loom_views.specs.Atomic.Ring.{blank_store, store_at}
+use Rattle.loom_views.proofs.Atomic.Table.Lists.{get-append_same, get-append_other}
+use Rattle.loom_views.proofs.Sight.Shapes.{is_there}
+
+-- each rank so far is below this one
+abbrev pub AreBelow : ℕ → List (Option ℕ) → Type 0
+AreBelow next ranks = (a b : ℕ) → slice_get ranks a ≡ Some (Some b) → b < next
+
+pub none_below : (next : ℕ) → AreBelow next []
+none_below next a b e = absurd (cc e)
+
+pub none_rising : AreRising []
+none_rising a b c d e f = absurd (cc e)
+
+module _ (ranks : List (Option ℕ)) (more : Option ℕ) where
+  old_at : (a : ℕ) (o : Option ℕ) → (a ≡ length ranks → ⊥) → slice_get (ranks ++ more ∷ []) a ≡ Some o → slice_get ranks a ≡ Some o
+  old_at a o n e = sym (get-append_other ranks a more n) ∙ e
+
+  new_at : (a : ℕ) (o : Option ℕ) → a ≡ length ranks → slice_get (ranks ++ more ∷ []) a ≡ Some o → more ≡ o
+  new_at a o i e = let f : ◌≡◌ {A = Option (Option ℕ)} (Some more) (Some o) = sym (get-append_same ranks a more i) ∙ e in cc f
+
+  -- one more count, which has no rank, or the next one
+  pub rising_more : AreRising ranks → ((b : ℕ) → more ≡ Some b → AreBelow b ranks) → AreRising (ranks ++ more ∷ [])
+  rising_more rising below a b c d e f = by (cases_eq a (length ranks)) (cases_eq c (length ranks))
+    where
+      by : ((a ≡ length ranks) ⊎ (a ≡ length ranks → ⊥)) → ((c ≡ length ranks) ⊎ (c ≡ length ranks → ⊥)) → nat_le a c ≡ nat_le b d
+      by (inl i) (inl j) =
+          let m : more ≡ Some b = new_at a (Some b) i e in
+          let n : more ≡ Some d = new_at c (Some d) j f in
+          let same : ◌≡◌ {A = Option ℕ} (Some b) (Some d) = sym m ∙ n in
+          let equal : b ≡ d = cc same in
+          le-leb a c (omega arith) ∙ sym (le-leb b d (omega arith))
+      by (inl i) (inr j) =
+          let old = old_at c (Some d) j f in
+          let there = is_there ranks c (Some d) old in
+          let less = below b (new_at a (Some b) i e) c d old in
+          lt-leb a c (omega arith) ∙ sym (lt-leb b d (omega arith))
+      by (inr i) (inl j) =
+          let old = old_at a (Some b) i e in
+          let there = is_there ranks a (Some b) old in
+          let less = below d (new_at c (Some d) j f) a b old in
+          le-leb a c (omega arith) ∙ sym (le-leb b d (omega arith))
+      by (inr i) (inr j) = rising a b c d (old_at a (Some b) i e) (old_at c (Some d) j f)
+
+  pub below_more : (next : ℕ) → ((b : ℕ) → more ≡ Some b → b < next) → AreBelow next ranks → AreBelow next (ranks ++ more ∷ [])
+  below_more next less below a b e = ⊎_elim (λ i. less b (new_at a (Some b) i e)) (λ i. below a b (old_at a (Some b) i e)) (cases_eq a (length ranks))
+
+-- a count without a rank
+pub without_rank : (ranks : List (Option ℕ)) (next : ℕ) → AreRising ranks × AreBelow next ranks → AreRising (ranks ++ None ∷ []) × AreBelow next (ranks ++ None ∷ [])
+without_rank ranks next h = (rising_more ranks None h.0 (λ b e. absurd (cc e)), below_more ranks None next (λ b e. absurd (cc e)) h.1)
+
+-- a count with the next one
+pub with_rank : (ranks : List (Option ℕ)) (next : ℕ) → AreRising ranks × AreBelow next ranks → AreRising (ranks ++ Some next ∷ []) × AreBelow (next + 1) (ranks ++ Some next ∷ [])
+with_rank ranks next h = (
+  rising_more ranks (Some next) h.0 (λ b e. let i : next ≡ b = cc e in subst (λ n. AreBelow n ranks) i h.1),
+  below_more ranks (Some next) (next + 1) (λ b e. let i : next ≡ b = cc e in omega arith) (λ a b e. let l = h.1 a b e in omega arith),
+)
+
+-- the tables of all threads
+pub all_rising : (ranks : List (List (Option ℕ))) → AllByRecursion AreRising ranks → IsRising (Ranked ranks)
+all_rising ranks h t a b c d e f = at ranks h t a b c d e f
+  where
+    found : (o : Option (Option ℕ)) (b : ℕ) → rank_in o ≡ Some b → o ≡ Some (Some b)
+    found None b e = absurd (cc e)
+    found (Some x) b e = ap Some e
+
+    at : (ranks : List (List (Option ℕ))) → AllByRecursion AreRising ranks → IsRising (Ranked ranks)
+    at [] h t a b c d e f = absurd (cc e)
+    at (x ∷ xs) h zero a b c d e f = h.0 a b c d (found (slice_get x a) b e) (found (slice_get x c) d f)
+    at (x ∷ xs) h (suc t) a b c d e f = at xs h.1 t a b c d e f
+
+-- ---- first touches
+
+-- one more of them is by its rank
+pub touch_next : (R : ℕ → ℕ → ℕ → Type 0) (vs ws more : List (Option ℕ)) (n : ℕ) (v w : Option ℕ) → n < 5 → ((t : ℕ) → t < n → PairsCounts R t (get_or vs t None) (get_or ws t None)) → v ≡ get_or vs n None → PairsCounts R n v w
+    → get_or more n None ≡ w → ((t : ℕ) → t < 5 → (t ≡ n → ⊥) → get_or more t None ≡ get_or ws t None) → (t : ℕ) → t < n + 1 → PairsCounts R t (get_or vs t None) (get_or more t None)
+touch_next R vs ws more n v w l so_far at pairs put others t less = ⊎_elim
+    (λ e. subst (λ k. PairsCounts R k (get_or vs k None) (get_or more k None)) (sym e) (subst (λ o. PairsCounts R n (get_or vs n None) o) (sym put) (subst (λ o. PairsCounts R n o w) at pairs)))
+    (λ d. subst (λ o. PairsCounts R t (get_or vs t None) o) (sym (others t (omega arith) d)) (so_far t (omega arith)))
+    (cases_eq t n)
+
+-- ---- lists, one beside the other
+
+pub pair_none : {X : Type 0} (R : ℕ → ℕ → ℕ → Type 0) (Pairs : X → X → Type 0) → PairAll R Pairs [] []
+pair_none R Pairs = record { count = refl; each = λ n. tt }
+
+pub pair_more : {X : Type 0} (R : ℕ → ℕ → ℕ → Type 0) (Pairs : X → X → Type 0) (vs ws : List X) (v w : X) → PairAll R Pairs vs ws → Pairs v w → PairAll R Pairs (vs ++ v ∷ []) (ws ++ w ∷ [])
+pair_more {X} R Pairs vs ws v w h p = record { count = let a = length_push vs v in let b = length_push ws w in let c = h.count in omega arith; each = λ n. at n (cases_eq n (length vs)) }
+  where
+    at : (n : ℕ) → ((n ≡ length vs) ⊎ (n ≡ length vs → ⊥)) → PairsAt R Pairs (slice_get (vs ++ v ∷ []) n) (slice_get (ws ++ w ∷ []) n)
+    at n (inl e) = rw (get-append_same vs n v e, get-append_same ws n w (e ∙ h.count)) p
+    at n (inr e) = rw (get-append_other vs n v e, get-append_other ws n w (λ f. e (f ∙ sym h.count))) (h.each n)
+
+pub all_more : {X : Type 0} (P : X → Type 0) (xs : List X) (x : X) → AllByRecursion P xs → P x → AllByRecursion P (xs ++ x ∷ [])
+all_more P [] x h p = (p, tt)
+all_more P (y ∷ xs) x h p = (h.0, all_more P xs x h.1 p)
+
+-- a step of the loop that ranks a thread's counts
+pub rank_next : (xs ys : List (Option ℕ)) (n m : ℕ) → ys ≡ xs ++ Some n ∷ [] → m ≡ n + 1 → AreRising xs × AreBelow n xs → AreRising ys × AreBelow m ys
+rank_next xs ys n m e f h = rw (e, f) (with_rank xs n h)
+
+pub rank_none : (xs ys : List (Option ℕ)) (n m : ℕ) → ys ≡ xs ++ None ∷ [] → m ≡ n → AreRising xs × AreBelow n xs → AreRising ys × AreBelow m ys
+rank_none xs ys n m e f h = rw (e, f) (without_rank xs n h)
+
+-- a kept store pairs, however it was read
+read_store : (R : ℕ → ℕ → ℕ → Type 0) (xs : List Store) (i : ℕ) (d a : Store) → i < length xs → PairsStores R (get_or xs i d) a → PairsStores R (store_at xs i) a
+read_store R xs i d a l p = subst (λ (x : Store). PairsStores R x a) (get_or_default xs i d blank_store l) p
+
+pub seven_stores : (R : ℕ → ℕ → ℕ → Type 0) (xs : List Store) (v w x y z s t a b c d e f g : Store) → length xs ≡ 7 → PairsStores R (get_or xs 0 v) a → PairsStores R (get_or xs 1 w) b → PairsStores R (get_or xs 2 x) c → PairsStores R (get_or xs 3 y) d
+    → PairsStores R (get_or xs 4 z) e → PairsStores R (get_or xs 5 s) f → PairsStores R (get_or xs 6 t) g → (i : ℕ) → i < 7 → PairsStores R (store_at xs i) (store_at (a ∷ b ∷ c ∷ d ∷ e ∷ f ∷ g ∷ []) i)
+seven_stores R xs v w x y z s t a b c d e f g n h₀ h₁ h₂ h₃ h₄ h₅ h₆ zero l = read_store R xs 0 v a (omega arith) h₀
+seven_stores R xs v w x y z s t a b c d e f g n h₀ h₁ h₂ h₃ h₄ h₅ h₆ (suc zero) l = read_store R xs 1 w b (omega arith) h₁
+seven_stores R xs v w x y z s t a b c d e f g n h₀ h₁ h₂ h₃ h₄ h₅ h₆ (suc (suc zero)) l = read_store R xs 2 x c (omega arith) h₂
+seven_stores R xs v w x y z s t a b c d e f g n h₀ h₁ h₂ h₃ h₄ h₅ h₆ (suc (suc (suc zero))) l = read_store R xs 3 y d (omega arith) h₃
+seven_stores R xs v w x y z s t a b c d e f g n h₀ h₁ h₂ h₃ h₄ h₅ h₆ (suc (suc (suc (suc zero)))) l = read_store R xs 4 z e (omega arith) h₄
+seven_stores R xs v w x y z s t a b c d e f g n h₀ h₁ h₂ h₃ h₄ h₅ h₆ (suc (suc (suc (suc (suc zero))))) l = read_store R xs 5 s f (omega arith) h₅
+seven_stores R xs v w x y z s t a b c d e f g n h₀ h₁ h₂ h₃ h₄ h₅ h₆ (suc (suc (suc (suc (suc (suc zero)))))) l = read_store R xs 6 t g (omega arith) h₆
+seven_stores R xs v w x y z s t a b c d e f g n h₀ h₁ h₂ h₃ h₄ h₅ h₆ (suc (suc (suc (suc (suc (suc (suc i))))))) l = absurd (omega arith)
+
+-- one more beside one more
+pub pair_next : {X : Type 0} (R : ℕ → ℕ → ℕ → Type 0) (Pairs : X → X → Type 0) (vs ws more : List X) (i : ℕ) (v w : X) → i < length vs → more ≡ ws ++ w ∷ [] → PairAll R Pairs (take i vs) ws → v ≡ get_or vs i v → Pairs v w → PairAll R Pairs (take (i + 1) vs) more
+pair_next {X} R Pairs vs ws more i v w l e h at p =
+    let n : suc i ≡ i + 1 = omega arith in
+    subst (λ (xs : List X). PairAll R Pairs xs more) (sym (take-suc vs i v l) ∙ ap (λ k. take k vs) n) (subst (λ (ys : List X). PairAll R Pairs (take i vs ++ get_or vs i v ∷ []) ys) (sym e) (pair_more R Pairs (take i vs) ws (get_or vs i v) w h (subst (λ x. Pairs x w) at p)))
+
+-- views by ranks are in the order of the views
+pub in_order : (ranks : List (List (Option ℕ))) (v w : Views) → IsRising (Ranked ranks) → PairsViews (Ranked ranks) v w → IsInOrder v w
+in_order ranks v w rising pairs = record { rank = rank_at ranks; rising = rising; views = pairs }

@@ -1,0 +1,153 @@
+//! The counts of views by their ranks: of each thread's counts that stand somewhere in them, how many others are below. Rules see no
+//! more of counts than their order, so views that are the same by their ranks are the same to them (own).
+
+ghost use Rattle.std.specs.Prelude.{ℕ, ◌<◌, ◌≤◌, IfOk, IfSome, IsTrue};
+ghost use Rattle.loom_views.specs.InOrder.{AreRising, IsRising, PairsCounts, Ranked};
+ghost use Rattle.loom_views.specs.Limits.{highest_version};
+
+use crate::rt::MAX_THREADS;
+use crate::rt::vv::{MAX_VERSION, VersionVec};
+use crate::sequence::Sequence;
+use std::alloc::{AllocError, Global};
+use std::marker::Model;
+
+/// Which counts of each thread stand somewhere in some views (own).
+#[derive(Drop)]
+pub struct Standing {
+    threads: Vec<Vec<bool>>,
+    alloc: Global,
+}
+
+impl Standing {
+    /// The count 0 of each thread, which stands wherever nothing has come. An error where memory is refused (own).
+    pub fn new(alloc: Global) -> Result<Standing, AllocError> {
+        let mut threads = Vec::new(alloc);
+        for _ in 0..MAX_THREADS {
+            let mut counts = Vec::new(alloc);
+            counts.push(true)?;
+            threads.push(counts)?;
+        }
+        Ok(Standing { threads, alloc })
+    }
+
+    /// A count of a thread stands too. An error where memory is refused (own).
+    pub fn add(&mut self, thread: usize, count: u16) -> Result<(), AllocError> {
+        if let Some(counts) = self.threads.get_mut(thread) {
+            let place = usize::from(count);
+            if counts.len() <= place {
+                counts.resize(place + 1, false)?;
+            }
+            if let Some(stands) = counts.get_mut(place) {
+                *stands = true;
+            }
+        }
+        Ok(())
+    }
+
+    /// So does one that there may be (own).
+    pub fn add_optional(&mut self, thread: usize, count: Option<u16>) -> Result<(), AllocError> {
+        match count {
+            Some(count) => self.add(thread, count),
+            None => Ok(()),
+        }
+    }
+
+    /// So does each count of a vector (own).
+    pub fn add_all(&mut self, view: &VersionVec) -> Result<(), AllocError> {
+        let counts = view.versions();
+        for thread in 0..MAX_THREADS {
+            self.add(thread, counts[thread])?;
+        }
+        Ok(())
+    }
+
+    /// The ranks of these counts. An error where memory is refused (own).
+    #[tactic(auto, using(crate::proofs::Ranks::all_more, crate::proofs::Ranks::all_rising))]
+    pub fn ranks(&self) -> Result<Ranks, AllocError>
+        ensures { IfOk result (λ ranks. IsRising (Ranked ranks)) }
+    {
+        let mut ranks = Vec::new(self.alloc);
+        for counts in self.threads.as_slice() {
+            ranks.push(ranks_of(self.alloc, counts.as_slice())?)?;
+        }
+        Ok(Ranks {
+            threads: Sequence::from_vec(ranks),
+        })
+    }
+}
+
+/// The ranks of a thread's counts: each that stands has one. An error where memory is refused.
+#[tactic(auto, using(crate::proofs::Ranks::none_rising, crate::proofs::Ranks::none_below))]
+fn ranks_of(alloc: Global, stands: &[bool]) -> Result<Sequence<Option<u16>>, AllocError>
+    ensures { IfOk result (λ ranks. AreRising ranks) }
+{
+    let mut ranks = Vec::new(alloc);
+    let mut next: u16 = 0;
+    for stand in stands {
+        if *stand && next < MAX_VERSION {
+            ranks.push(Some(next))?;
+            next += 1;
+        } else {
+            ranks.push(None)?;
+        }
+    }
+    Ok(Sequence::from_vec(ranks))
+}
+
+/// For each thread, the ranks of its counts (own).
+#[derive(Drop)]
+pub struct Ranks {
+    threads: Sequence<Sequence<Option<u16>>>,
+}
+
+impl Model for Ranks {
+    ghost use Rattle.std.specs.Prelude.{ℕ, List, Option};
+
+    ghost Value = { List (List (Option ℕ)) };
+
+    ghost view = { λ r. r.threads };
+}
+
+impl Ranks {
+    /// The rank of a thread's count, if it has one (own).
+    pub fn rank(&self, thread: usize, count: u16) -> Option<u16>
+        ensures ranked { IfSome result (λ rank. Ranked self.now thread count rank) }
+        ensures most { IfSome result (λ rank. rank ≤ highest_version) }
+    {
+        if thread >= self.threads.len() {
+            return None;
+        }
+        let ranks = self.threads.at(thread);
+        let place = usize::from(count);
+        if place >= ranks.len() {
+            return None;
+        }
+        match *ranks.at(place) {
+            Some(rank) if rank <= MAX_VERSION => Some(rank),
+            _ => None,
+        }
+    }
+
+    /// The rank of a count that there may be: none of none (own).
+    pub fn rank_optional(&self, thread: usize, count: Option<u16>) -> Option<Option<u16>>
+        ensures ranked { IfSome result (λ rank. PairsCounts (Ranked self.now) thread count rank) }
+        ensures most { IfSome result (λ rank. IfSome rank (λ ranked. ranked ≤ highest_version)) }
+    {
+        match count {
+            Some(count) => Some(Some(self.rank(thread, count)?)),
+            None => Some(None),
+        }
+    }
+
+    /// Whether the count 0 of each thread has the rank 0 (own).
+    pub fn have_zeros(&self) -> bool
+        ensures { IsTrue result → (t : ℕ) → t < 5 → Ranked self.now t 0 0 }
+    {
+        for thread in 0..MAX_THREADS {
+            if self.rank(thread, 0) != Some(0) {
+                return false;
+            }
+        }
+        true
+    }
+}
