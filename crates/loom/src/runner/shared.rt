@@ -1,5 +1,5 @@
-//! What the threads of a run share: its state under a lock, and the condition variable by which they wake each other. By it they
-//! hand over their operations, wait for their turns, and start and join each other.
+//! What the threads of a run share: its state under a lock, and where each of them waits for its turn. By it they hand over their
+//! operations, wake each other, and start and join each other.
 ghost use Rattle.std.specs.Prelude.{◌≡◌, ◌≤◌, IfOk, IfErr};
 ghost use Rattle.loom_engine.specs.Path.Drawn.{IsDrawn};
 ghost use Rattle.loom_engine.specs.Path.Route.{IsAtStart};
@@ -19,8 +19,11 @@ use loom_engine::rt::path::Path;
 use loom_objects::label::Label;
 use loom_objects::operation::{Name, Reply, Request, ThreadOp};
 use loom_ops::thread::JoinHandle;
+use loom_views::rt::MAX_THREADS;
 use std::alloc::Global;
-use std::sync::{Arc, Condvar, Mutex, Wait};
+use std::hint::spin_loop;
+use std::sync::atomic::{AtomicU64, Ordering};
+use std::sync::{Arc, Condvar, Mutex, MutexGuard, Wait};
 use std::thread::{self, Threads};
 
 /// What the threads of a run share that begins with the path (own). `Memory` where a growth was refused.
@@ -68,7 +71,14 @@ fn share_turns<D: Exact + 'static>(
 {
     let shared = Shared {
         turns: Mutex::new(turns),
-        turned: Condvar::new(),
+        shown: AtomicU64::new(0),
+        places: [
+            Condvar::new(),
+            Condvar::new(),
+            Condvar::new(),
+            Condvar::new(),
+            Condvar::new(),
+        ],
     };
     match Arc::new(alloc, shared) {
         Ok(shared) => Ok(shared),
@@ -94,11 +104,73 @@ pub fn main_handle<D: Exact + 'static, R: Threads + Wait + Clone + Send + 'stati
     Ok(Handle::new(again, alloc, mine, 0))
 }
 
-/// What the threads of a run share: the state of the run, and by what they wake each other.
+/// What the threads of a run share: the state of the run, and where each of them waits for its turn.
 #[derive(Drop)]
 pub struct Shared<D> {
     pub turns: Mutex<Turns<D>>,
-    pub turned: Condvar,
+    // whose turn it is, or `ALL`, for threads that look before they sleep. What counts is what stands in `turns`.
+    shown: AtomicU64,
+    // where each thread sleeps, by its number
+    places: [Condvar; MAX_THREADS],
+}
+
+/// What is shown once the run goes no further, so that no thread waits.
+const ALL: u64 = u64::MAX;
+
+/// How often a thread looks whether its turn has come before it sleeps. Another one's turn is mostly shorter than that, and far shorter
+/// than to sleep and to be woken takes.
+const LOOKS: u32 = 100;
+
+impl<D: Exact> Shared<D> {
+    /// Gives the state back, and wakes the thread whose turn it is now, or each one where the run goes no further. They are woken once
+    /// the lock is let go, so that they needn't wait for it.
+    fn pass_on(&self, turns: MutexGuard<'_, Turns<D>>) {
+        let next = turns.next();
+        self.shown.store(shown_of(next), Ordering::SeqCst);
+        drop(turns);
+        match next {
+            Some(thread) => self.place(thread).notify_all(),
+            None => self.wake_all(),
+        }
+    }
+
+    fn wake_all(&self) {
+        for place in &self.places {
+            place.notify_all();
+        }
+    }
+
+    /// Waits until the thread is decided: it looks a while, and then it sleeps. Answers the state.
+    fn wait<R: Wait>(&self, rt: &R, me: u8) -> MutexGuard<'_, Turns<D>> {
+        self.look(me);
+        let turns = self.turns.lock(rt);
+        self.place(me)
+            .wait_while(rt, turns, |turns| !turns.is_decided(me))
+    }
+
+    /// Looks a while whether the thread is shown to be decided.
+    fn look(&self, me: u8) {
+        for _ in 0..LOOKS {
+            let shown = self.shown.load(Ordering::SeqCst);
+            if shown == u64::from(me) || shown == ALL {
+                return;
+            }
+            spin_loop();
+        }
+    }
+
+    /// Where the thread sleeps. A run has no more threads than places.
+    fn place(&self, thread: u8) -> &Condvar {
+        &self.places[thread as usize % MAX_THREADS]
+    }
+}
+
+/// What is shown where it is this thread's turn, or where the run goes no further.
+fn shown_of(next: Option<u8>) -> u64 {
+    match next {
+        Some(thread) => u64::from(thread),
+        None => ALL,
+    }
 }
 
 /// A spawn: which thread hands it over, with which label, and the name of the thread that begins.
@@ -125,25 +197,25 @@ pub(crate) fn hand_over<D: Exact, R: Wait>(
 ) -> Result<Reply<D>, Stop> {
     let mut turns = shared.turns.lock(rt);
     turns.submit(op, label);
-    shared.turned.notify_all();
-    let turns = shared
-        .turned
-        .wait_while(rt, turns, |turns| !turns.is_decided(me));
-    turns.reply(me)
+    if turns.next() == Some(me) {
+        return turns.reply(me);
+    }
+    shared.pass_on(turns);
+    shared.wait(rt, me).reply(me)
 }
 
 /// Hands over the thread's last operation, and waits for nothing.
 pub(crate) fn end<D: Exact, R: Wait>(rt: &R, shared: &Shared<D>) {
     let mut turns = shared.turns.lock(rt);
     turns.submit(Request::Thread(ThreadOp::End), None);
-    shared.turned.notify_all();
+    shared.pass_on(turns);
 }
 
 /// The run goes no further.
 pub(crate) fn give_up<D: Exact, R: Wait>(rt: &R, shared: &Shared<D>, stop: Stop) {
     let mut turns = shared.turns.lock(rt);
     turns.give_up(stop);
-    shared.turned.notify_all();
+    shared.pass_on(turns);
 }
 
 /// Hands over `fail`, and answers the stop.
@@ -179,10 +251,7 @@ pub(crate) fn answer_again<D: Exact, R: Wait>(rt: &R, shared: &Shared<D>, me: u8
 
 /// Waits until the thread may start. False if it never may.
 fn is_started<D: Exact, R: Wait>(rt: &R, shared: &Shared<D>, me: u8) -> bool {
-    let turns = shared
-        .turned
-        .wait_while(rt, shared.turns.lock(rt), |turns| !turns.is_decided(me));
-    turns.starts(me)
+    shared.wait(rt, me).starts(me)
 }
 
 /// Starts a thread for the job, which waits for its turn.

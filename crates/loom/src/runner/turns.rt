@@ -3,6 +3,7 @@ ghost use Rattle.std.specs.Prelude.{◌≡◌, ◌↔◌, ◌≤◌, [], IfOk, I
 ghost use Rattle.loom_engine.specs.Path.Drawn.{IsDrawn};
 ghost use Rattle.loom_engine.specs.Path.Route.{IsAtStart, chosen};
 ghost use Rattle.loom.specs.Runner.Drawn.{AddsBy, LeadsBy, SettlesDrawn};
+ghost use Rattle.loom.specs.Runner.Events.{turn_in};
 ghost use Rattle.loom.specs.Runner.Histories.{active_at, Answers, IsDecided, IsNotAdded, Settles, Starts, last_event, end_in, ended_by, failed_by, or_else, why_stopped};
 
 pub(crate) mod drawing;
@@ -174,6 +175,16 @@ impl<D: Exact> Turns<D> {
         match self.spoiled {
             Some(stop) => Some(stop),
             None => self.history.end().map(Stop::Failure),
+        }
+    }
+
+    /// Whose turn it is by the last event. None where the run goes no further (own).
+    pub fn next(&self) -> Option<u8>
+        ensures { MatchOption (why_stopped self.now) (result ≡ turn_in self.now.history) (λ stop. result ≡ None) }
+    {
+        match self.stopped() {
+            Some(_) => None,
+            None => self.history.turn(),
         }
     }
 

@@ -26,6 +26,13 @@ impl<D> History<D> {
         failure_in(self.events())
     }
 
+    /// Whose turn it is by the last event (own).
+    pub fn turn(&self) -> Option<u8>
+        ensures { result ≡ turn_in self.now }
+    {
+        turn_by(self.events())
+    }
+
     /// Whether it is the thread's turn by the last event (own).
     pub fn is_turn_of(&self, thread: u8) -> bool
         ensures { IsTrue result ↔ (turn_in self.now ≡ Some thread) }
@@ -110,6 +117,14 @@ fn value_in<D: Exact>(history: &[Event<D>]) -> Result<Option<D>, AllocError>
     Ok(Some(value.try_clone()?))
 }
 
+/// Whose turn it is by the last event.
+fn turn_by<D>(history: &[Event<D>]) -> Option<u8>
+    ensures { result ≡ turn_in history.now }
+{
+    let event = history.last()?;
+    next_of(&event.outcome)
+}
+
 /// Whether it is the thread's turn by the last event.
 fn is_turn_in<D>(history: &[Event<D>], thread: u8) -> bool
     ensures { IsTrue result ↔ (turn_in history.now ≡ Some thread) }
@@ -136,6 +151,17 @@ fn reply_in<D>(history: &[Event<D>], thread: u8) -> Option<&Reply<D>>
 {
     let event = history.last()?;
     reply_to(&event.outcome, thread)
+}
+
+/// Whose turn is the next one.
+fn next_of<D>(outcome: &Result<Turn<D>, Failure>) -> Option<u8>
+    ensures { result ≡ next_turn outcome.now }
+{
+    match outcome {
+        Ok(Turn::Reply(next, _)) => Some(*next),
+        Ok(Turn::Start(next)) => Some(*next),
+        Ok(Turn::Ended(_)) | Err(_) => None,
+    }
 }
 
 /// Whether the next turn is the thread's.
