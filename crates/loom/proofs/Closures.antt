@@ -1,6 +1,7 @@
 pub mod Alike
 pub mod Comparing
 pub mod Alone
+pub mod AsAsked
 pub mod Erring
 pub mod Explaining
 pub mod Making

@@ -1,4 +1,5 @@
 pub mod Alike
+pub mod AsAsked
 pub mod Asking
 pub mod Calls
 pub mod Chains

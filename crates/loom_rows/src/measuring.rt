@@ -25,7 +25,7 @@ use std::thread::Threads;
 use std::time::{Duration, Instant};
 
 /// What is checked where no word names a body: what takes seconds.
-static QUICK: [&str; 28] = [
+static QUICK: [&str; 29] = [
     "store_buffering",
     "store_buffering bound 1",
     "store_buffering bound 2",
@@ -54,6 +54,7 @@ static QUICK: [&str; 28] = [
     "three_threads cover",
     "stores_apart",
     "store_buffering closures",
+    "store_buffering closures recorded",
 ];
 
 /// Measures what has these names or, where there are none, what takes seconds. Answers the highest of the exit statuses.
@@ -74,16 +75,17 @@ pub(crate) fn measure_all<
     status
 }
 
-/// Checks the closures as often as they say, and prints what `measure` does and how many threads a run starts. Answers the exit
-/// status: 2 where there is no report, and 1 where a run fails.
+/// Checks the closures as often as they say, and prints what `measure` does, how often main was called in the last check, and how many
+/// threads a call starts. Answers the exit status: 2 where there is no report, and 1 where a run fails.
 fn measure_closures<
     R: AllocGlobal + Clock + Files + Threads + Wait + Clone + Send + 'static,
     O: Write,
     E: Write,
 >(rt: &R, closures: &Closures, out: &mut O, err: &mut E) -> io::Result<u8> {
     let name = closures.name;
+    let mut calls = 0u64;
     let start = Instant::now(rt)?;
-    let report = check_closures(rt, closures);
+    let report = check_closures(rt, closures, &mut calls);
     let taken = start.elapsed(rt)?;
     let Some(report) = report else {
         writeln!(err, "{name}: no report")?;
@@ -92,19 +94,26 @@ fn measure_closures<
     let status = print_line(out, name, &report)?;
     print_speed(err, name, closures.checks, &report, taken)?;
     let threads = closures.threads;
-    writeln!(err, "{name}: {threads} threads started in a run")?;
+    writeln!(
+        err,
+        "{name}: {calls} calls of main in a check, each starts {threads} threads"
+    )?;
     Ok(status)
 }
 
-/// The report of the last check, once all checks were made.
+/// The report of the last check, once all checks were made, and how often that one called main.
 fn check_closures<R: AllocGlobal + Clock + Files + Threads + Wait + Clone + Send + 'static>(
     rt: &R,
     closures: &Closures,
+    calls: &mut u64,
 ) -> Option<Report> {
-    let builder = closures.settings.builder();
+    let mut builder = closures.settings.builder();
+    builder.recorded = closures.records;
+    let row = closures.row;
     let mut found = None;
     for _ in 0..closures.checks {
-        found = Some(closures.row.check_by(rt, rt.alloc(), &builder).ok()?);
+        *calls = 0;
+        found = Some(row.check_counted(rt, rt.alloc(), &builder, calls).ok()?);
     }
     found
 }

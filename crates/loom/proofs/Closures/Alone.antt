@@ -1,7 +1,7 @@
 -- Checks without a store, or with a file.
-use Rattle.std.proofs.Common.{◌≡◌, ◌≢◌, ℕ, List, inl, inr, arith, refl, subst, sym, Option, Some, None, Result, Ok, Err}
+use Rattle.std.proofs.Common.{◌≢◌, ℕ, List, inl, inr, arith, refl, subst, Option, Some, None, Result}
 use Rattle.std.specs.Option.{option_map_or}
-use Rattle.std.specs.Prelude.{IfOk, String}
+use Rattle.std.specs.Prelude.{String}
 use Rattle.std.specs.declared.alloc.Global.{Global}
 use Rattle.std.specs.declared.time.Duration.{Duration}
 use Rattle.loom_objects.specs.declared.choice.Choice.{Choice}
@@ -11,14 +11,9 @@ use Rattle.loom.specs.declared.model.report.Report.{Report}
 use Rattle.loom.specs.declared.model.report.Report.TheVariants as report
 use Rattle.loom.specs.declared.runner.stop.Stop.{Stop}
 use Rattle.loom.specs.Model.Check.{gives_file}
-use Rattle.loom.specs.Model.Settings.{defaults}
 use Rattle.loom.specs.Model.Stores.{HasRisen}
-use Rattle.loom.specs.declared.runner.defaults.NoVisitor.{NoVisitor}
 use Rattle.loom.specs.Runner.Handle.{Teller}
-use Rattle.loom.specs.Model.Rising.{bounded}
-use Rattle.loom.specs.Runner.Check.{Made, IsHeld, Reports, ReportsUnsaved, Says}
-use Rattle.loom.specs.Runner.Expected.{ignores}
-use Rattle.loom.specs.Runner.Rising.{ReportsAt}
+use Rattle.loom.specs.Runner.Check.{Made, IsHeld, Reports, Says}
 use Rattle.loom.proofs.ModelLemmas.Errors.{no_count}
 
 -- a file may give anything
@@ -59,9 +54,9 @@ module _ {D F V : Type 0} (called : F → Teller D → Result D Stop → F → T
     given = z.given;
   }
 
-  pub reports_alone : (f : F) (v v' : V) (gives holds : Option (List ℕ) → Type 0) (answered : Duration → Type 0) {E : Type 0} (answer : Result Report E) → IfOk answer (Reports called takes b f v v' gives holds answered)
-      → IfOk answer (Reports called takes b f v v' gives (λ text. Unit {0}) answered)
-  reports_alone f v v' gives holds answered (Ok r) z = record {
+  pub unkept : (f : F) (v v' : V) (gives holds : Option (List ℕ) → Type 0) (answered : Duration → Type 0) (r : Report) → Reports called takes b f v v' gives holds answered r
+      → Reports called takes b f v v' gives (λ text. Unit {0}) answered r
+  unkept f v v' gives holds answered r z = record {
     text = z.text;
     gave = z.gave;
     path = z.path;
@@ -74,16 +69,3 @@ module _ {D F V : Type 0} (called : F → Teller D → Result D Stop → F → T
     limits = z.limits;
     held = held_unknown z.path holds f v z.runs b.checkpoint_interval z.held;
   }
-  reports_alone f v v' gives holds answered (Err e) z = z
-
--- the defaults
-pub reports_default : {D F : Type 0} (called : F → Teller D → Result D Stop → F → Teller D → Type 0) (takes : NoVisitor → List Choice → D → NoVisitor → Type 0) (b : Builder) (f : F) (v v' : NoVisitor) {E : Type 0}
-    (answer : Result Report E) → b ≡ defaults → IfOk answer (ReportsUnsaved called takes b f v v') → IfOk answer (λ report. (w w' : NoVisitor) × ReportsUnsaved called takes defaults f w w' report)
-reports_default called takes b f v v' (Ok r) is z = (v, v', subst (λ (x : Builder). ReportsUnsaved called takes x f v v' r) is z)
-reports_default called takes b f v v' (Err e) is z = z
-
--- a check with a bound
-pub reports_at : {D F : Type 0} (called : F → Teller D → Result D Stop → F → Teller D → Type 0) (b : Builder) (bound : ℕ) (bounded_so : Builder) (f : F) (v v' : NoVisitor) {E : Type 0} (answer : Result Report E)
-    → bounded_so ≡ bounded b bound → IfOk answer (ReportsUnsaved called ignores bounded_so f v v') → IfOk answer (ReportsAt called b bound)
-reports_at called b bound bounded_so f v v' (Ok r) is z = (f, v, v', subst (λ (x : Builder). ReportsUnsaved called ignores x f v v' r) is z)
-reports_at called b bound bounded_so f v v' (Err e) is z = z

@@ -1,6 +1,7 @@
 -- Checks in which nobody is given the runs.
 use Rattle.std.proofs.Common.{◌≡◌, ℕ, inl, inr, List, [], ◌∷◌, refl, ap}
 use Rattle.std.specs.Prelude.{◌≢◌, ◌⊎◌, Option, Some, None, Result, Ok, Err, IfOk, IfErr}
+use Rattle.std.specs.declared.time.Duration.{Duration}
 use Rattle.loom_objects.specs.declared.choice.Choice.{Choice}
 use Rattle.loom_objects.specs.Tree.Tree.{Tree}
 use Rattle.loom_engine.specs.declared.rt.path.node.Node.{Node}
@@ -59,24 +60,26 @@ module _ {D : Type 0} (b : Builder) (tree : Tree D) (holds : Option (List ℕ) �
     goes_on = z.goes_on;
   }
 
-module _ {D : Type 0} (b : Builder) (tree : Tree D) (gives holds : Option (List ℕ) → Type 0) where
-  unknown : (report : Report) → ReportsUnheard b tree gives holds report → ReportsUnheard b tree gives (λ text. Unit {0}) report
-  unknown report z = record {
-    text = z.text;
-    gave = z.gave;
-    path = z.path;
-    reads = z.reads;
-    runs = z.runs;
-    given = z.given;
-    says = says_unknown b tree holds z.path z.runs report z.says;
-    limits = z.limits;
-    placed = z.placed;
-    held = held_unknown b tree holds z.path z.runs z.held;
-  }
+pub unkept_body : {V D : Type 0} (takes : V → List Choice → D → V → Type 0) (old new : V) (b : Builder) (tree : Tree D) (gives holds : Option (List ℕ) → Type 0) (answered : Duration → Type 0) (report : Report)
+    → Reports takes old new b tree gives holds answered report → Reports takes old new b tree gives (λ text. Unit {0}) answered report
+unkept_body takes old new b tree gives holds answered report z = record {
+  text = z.text;
+  gave = z.gave;
+  path = z.path;
+  reads = z.reads;
+  runs = z.runs;
+  given = z.given;
+  says = says_unknown b tree holds z.path z.runs report z.says;
+  limits = z.limits;
+  placed = z.placed;
+  held = held_unknown b tree holds z.path z.runs z.held;
+}
 
-  pub unknown_ok : (answer : Result Report CheckError) → IfOk answer (ReportsUnheard b tree gives holds) → IfOk answer (ReportsUnheard b tree gives (λ text. Unit {0}))
-  unknown_ok (Ok report) z = unknown report z
-  unknown_ok (Err e) z = z
+pub unknown_ok : {D : Type 0} (b : Builder) (tree : Tree D) (gives holds : Option (List ℕ) → Type 0) (answer : Result Report CheckError) → IfOk answer (ReportsUnheard b tree gives holds)
+    → IfOk answer (ReportsUnheard b tree gives (λ text. Unit {0}))
+unknown_ok b tree gives holds (Ok report) z =
+    unkept_body {V = Unit {0}} (λ old choices value new. Unit {0}) tt tt b tree gives holds (λ time. time ≡ record { secs = 0; nanos = 0 }) report z
+unknown_ok b tree gives holds (Err e) z = z
 
 pub unheard_errors : {A : Type 0} (b : Builder) (gives : Option (List ℕ) → Type 0) (no_run : Type 0) (answer : Result A CheckError) → IfErr answer (IsNoReport b gives no_run)
     → IfErr answer (IsNoReport b gives (Unit {0}))

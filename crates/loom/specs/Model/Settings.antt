@@ -49,6 +49,7 @@ defaults = record {
   expect_explicit_explore = false;
   location = false;
   log = false;
+  recorded = false;
 }
 
 -- how many runs a check makes at most

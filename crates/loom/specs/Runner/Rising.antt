@@ -7,14 +7,14 @@ use Rattle.loom.specs.declared.model.rising.Risen.{Risen}
 use Rattle.loom.specs.Model.Rising.{bounded, is_complete}
 use Rattle.loom.specs.declared.runner.defaults.NoVisitor.{NoVisitor}
 use Rattle.loom.specs.declared.runner.stop.Stop.{Stop}
-use Rattle.loom.specs.Runner.Check.{ReportsUnsaved}
+use Rattle.loom.specs.Runner.AsAsked.{ReportsAsAskedUnsaved}
 use Rattle.loom.specs.Runner.Expected.{ignores}
 use Rattle.loom.specs.Runner.Handle.{Teller}
 
 module _ {D F : Type 0} (called : F → Teller D → Result D Stop → F → Teller D → Type 0) (b : Builder) where
   -- a check of the closure as it was then, with this bound and without a file, reports this
   abbrev pub ReportsAt : ℕ → Report → Type 0
-  ReportsAt bound report = (f : F) × (v : NoVisitor) × (v' : NoVisitor) × ReportsUnsaved called ignores (bounded b bound) f v v' report
+  ReportsAt bound report = (f : F) × (v : NoVisitor) × (v' : NoVisitor) × ReportsAsAskedUnsaved called ignores (bounded b bound) f v v' report
 
   -- it is complete
   abbrev pub CompletesAt : ℕ → Type 0

@@ -39,6 +39,9 @@ pub struct Builder {
     pub location: bool,
     /// Whether it is logged which thread goes on.
     pub log: bool,
+    /// Whether a check of a closure records what its threads answer, and makes the runs whose answers are all known without threads
+    /// (own): what that asks of the closure says `runner::check_recorded`. A check of a body is the same with it.
+    pub recorded: bool,
 }
 
 impl Default for Builder {
@@ -51,7 +54,7 @@ impl Default for Builder {
 
 impl Builder {
     /// The defaults: 5 threads, 1,000 branch points and 1,000,000 operations, in a reduced search without a bound or a limit,
-    /// and a checkpoint every 20,000 runs.
+    /// and a checkpoint every 20,000 runs. Nothing is recorded.
     pub fn new() -> Builder
         ensures { result ≡ defaults }
     {
@@ -68,6 +71,7 @@ impl Builder {
             expect_explicit_explore: false,
             location: false,
             log: false,
+            recorded: false,
         }
     }
 

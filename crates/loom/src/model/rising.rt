@@ -94,6 +94,7 @@ impl Builder {
             expect_explicit_explore: self.expect_explicit_explore,
             location: self.location,
             log: self.log,
+            recorded: self.recorded,
         }
     }
 }

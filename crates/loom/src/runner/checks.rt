@@ -1,11 +1,12 @@
 //! Checks of a closure: one run after another, up to a report.
-ghost use Rattle.std.specs.Prelude.{◌≡◌, IfOk, IfErr, OnErr};
+ghost use Rattle.std.specs.Prelude.{◌≡◌, false, IfOk, IfErr, OnErr};
 ghost use Rattle.std.specs.Fn.{CalledAtMut};
 ghost use Rattle.loom.specs.Model.Settings.{tested};
 ghost use Rattle.loom.specs.Model.Stores.{HasRisen};
 ghost use Rattle.loom.specs.declared.runner.error.RunnerError.TheVariants.{Settings};
 ghost use Rattle.loom.specs.Runner.Alike.{IsChangedSo, ReportsAlike};
-ghost use Rattle.loom.specs.Runner.Check.{Reports, ReportsAlone, ReportsUnsaved, limits_of};
+ghost use Rattle.loom.specs.Runner.AsAsked.{ReportsAsAsked, ReportsAsAskedAlone, ReportsAsAskedUnsaved};
+ghost use Rattle.loom.specs.Runner.Check.{Reports, limits_of};
 ghost use Rattle.loom.specs.Runner.Refusals.{CountsFaults, IsNoReport, IsNoReportAlone, IsNoReportUnsaved, StillHolds};
 
 use crate::checkpoint::file::file_store;
@@ -20,6 +21,7 @@ use crate::runner::exact::Exact;
 use crate::runner::failures::tell_failure;
 use crate::runner::handle::Handle;
 use crate::runner::last_run::LastRun;
+use crate::runner::recorded::check_recorded_lent;
 use crate::runner::rounds::make_rounds;
 use crate::runner::stop::Stop;
 use crate::runner::watcher::Watcher;
@@ -31,7 +33,8 @@ use std::thread::Threads;
 
 /// Makes one run of the closure after another, until nothing is left that the search tries, a run fails or `max_permutations`
 /// runs were made, and gives each that ended without a failure to the visitor (own; loom's `Builder::check` takes closures). The
-/// closure is main: it is called once for each run, and spawns the run's other threads by its handle.
+/// closure is main: it is called once for each run, and spawns the run's other threads by its handle. Where the builder says
+/// `recorded` the check is that of `check_recorded`, which calls it more seldom.
 ///
 /// A setting out of range is refused before any run, as `Settings`. Besides, an error comes only where a growth or a thread was
 /// refused, as `Memory` and `Refused`, or where a run's end isn't settled, as `NotSettled`: mostly where the threads' told lists
@@ -54,11 +57,11 @@ pub fn check<
     visitor: &mut V,
 ) -> Result<Report, RunnerError>
     requires { F.IsAlwaysCallable closure }
-    ensures reports { IfOk result (ReportsAlone (CalledAtMut F.FnMut) V.takes builder.now closure visitor.old visitor.new) }
-    ensures alike { IfOk result (ReportsAlike (CalledAtMut F.FnMut) V.takes (limits_of builder.now) closure) }
-    ensures changed { IfErr result (IsChangedSo (CalledAtMut F.FnMut) V.takes (limits_of builder.now) closure) }
+    ensures reports { IfOk result (ReportsAsAskedAlone (CalledAtMut F.FnMut) V.takes builder.now closure visitor.old visitor.new) }
+    ensures alike { builder.now.recorded ≡ false → IfOk result (ReportsAlike (CalledAtMut F.FnMut) V.takes (limits_of builder.now) closure) }
+    ensures changed { builder.now.recorded ≡ false → IfErr result (IsChangedSo (CalledAtMut F.FnMut) V.takes (limits_of builder.now) closure) }
     ensures refused { IfErr (tested builder.now) (λ e. (result ≡ Err (Settings e)) × (visitor.new ≡ visitor.old)) }
-    ensures errors { IfErr result (IsNoReportAlone (CalledAtMut F.FnMut) V.takes builder.now closure visitor.old visitor.new) }
+    ensures errors { builder.now.recorded ≡ false → IfErr result (IsNoReportAlone (CalledAtMut F.FnMut) V.takes builder.now closure visitor.old visitor.new) }
 {
     check_lent(rt, alloc, builder, &mut closure, visitor)
 }
@@ -78,11 +81,11 @@ pub(crate) fn check_lent<
 ) -> Result<Report, RunnerError>
     requires { F.IsAlwaysCallable closure.old }
     ensures again { F.IsAlwaysCallable closure.new }
-    ensures reports { IfOk result (ReportsAlone (CalledAtMut F.FnMut) V.takes builder.now closure.old visitor.old visitor.new) }
-    ensures alike { IfOk result (ReportsAlike (CalledAtMut F.FnMut) V.takes (limits_of builder.now) closure.old) }
-    ensures changed { IfErr result (IsChangedSo (CalledAtMut F.FnMut) V.takes (limits_of builder.now) closure.old) }
+    ensures reports { IfOk result (ReportsAsAskedAlone (CalledAtMut F.FnMut) V.takes builder.now closure.old visitor.old visitor.new) }
+    ensures alike { builder.now.recorded ≡ false → IfOk result (ReportsAlike (CalledAtMut F.FnMut) V.takes (limits_of builder.now) closure.old) }
+    ensures changed { builder.now.recorded ≡ false → IfErr result (IsChangedSo (CalledAtMut F.FnMut) V.takes (limits_of builder.now) closure.old) }
     ensures refused { IfErr (tested builder.now) (λ e. (result ≡ Err (Settings e)) × (visitor.new ≡ visitor.old)) }
-    ensures errors { IfErr result (IsNoReportAlone (CalledAtMut F.FnMut) V.takes builder.now closure.old visitor.old visitor.new) }
+    ensures errors { builder.now.recorded ≡ false → IfErr result (IsNoReportAlone (CalledAtMut F.FnMut) V.takes builder.now closure.old visitor.old visitor.new) }
 {
     let log = None::<HostRuntime>;
     match file_store(rt, alloc, &builder.checkpoint_file) {
@@ -115,11 +118,11 @@ pub(crate) fn check_unsaved<
 ) -> Result<Report, RunnerError>
     requires { F.IsAlwaysCallable closure.old }
     ensures again { F.IsAlwaysCallable closure.new }
-    ensures reports { IfOk result (ReportsUnsaved (CalledAtMut F.FnMut) V.takes builder.now closure.old visitor.old visitor.new) }
-    ensures alike { IfOk result (ReportsAlike (CalledAtMut F.FnMut) V.takes (limits_of builder.now) closure.old) }
-    ensures changed { IfErr result (IsChangedSo (CalledAtMut F.FnMut) V.takes (limits_of builder.now) closure.old) }
+    ensures reports { IfOk result (ReportsAsAskedUnsaved (CalledAtMut F.FnMut) V.takes builder.now closure.old visitor.old visitor.new) }
+    ensures alike { builder.now.recorded ≡ false → IfOk result (ReportsAlike (CalledAtMut F.FnMut) V.takes (limits_of builder.now) closure.old) }
+    ensures changed { builder.now.recorded ≡ false → IfErr result (IsChangedSo (CalledAtMut F.FnMut) V.takes (limits_of builder.now) closure.old) }
     ensures refused { IfErr (tested builder.now) (λ e. (result ≡ Err (Settings e)) × (visitor.new ≡ visitor.old)) }
-    ensures errors { IfErr result (IsNoReportUnsaved (CalledAtMut F.FnMut) V.takes builder.now closure.old visitor.old visitor.new) }
+    ensures errors { builder.now.recorded ≡ false → IfErr result (IsNoReportUnsaved (CalledAtMut F.FnMut) V.takes builder.now closure.old visitor.old visitor.new) }
 {
     let mut store = None::<MemoryStore>;
     let log = None::<HostRuntime>;
@@ -145,6 +148,8 @@ pub(crate) fn check_unsaved<
 /// calls were answered so, and of one that holds the turn for ten seconds; and as an error of a run that failed, with what happened in
 /// it, for which the closure is called once more. A thread of the host looks at the runs once a second for the warnings.
 ///
+/// Where the builder says `recorded` the check is that of `check_recorded`.
+///
 /// A setting out of range is refused before any run, the first one first, and then a text that is no path of this check, both as
 /// `Settings`; a fault of the store is one too. Its other errors are those of `check`. After an error only visitor, clock, store and
 /// log have moved, and the store holds what it held, or a text of a path that the check has come to. Where the path that the store
@@ -168,12 +173,12 @@ pub fn check_with<
     log: &L,
 ) -> Result<Report, RunnerError>
     requires { F.IsAlwaysCallable closure }
-    ensures reports { IfOk result (Reports (CalledAtMut F.FnMut) V.takes builder.now closure visitor.old visitor.new (S.gives store.old) (S.holds store.new) (C.answered clock.new)) }
-    ensures alike { IfOk result (ReportsAlike (CalledAtMut F.FnMut) V.takes (limits_of builder.now) closure) }
-    ensures changed { IfErr result (IsChangedSo (CalledAtMut F.FnMut) V.takes (limits_of builder.now) closure) }
+    ensures reports { IfOk result (ReportsAsAsked (CalledAtMut F.FnMut) V.takes builder.now closure visitor.old visitor.new (S.gives store.old) (S.holds store.new) (C.answered clock.new)) }
+    ensures alike { builder.now.recorded ≡ false → IfOk result (ReportsAlike (CalledAtMut F.FnMut) V.takes (limits_of builder.now) closure) }
+    ensures changed { builder.now.recorded ≡ false → IfErr result (IsChangedSo (CalledAtMut F.FnMut) V.takes (limits_of builder.now) closure) }
     ensures refused { IfErr (tested builder.now) (λ e. (result ≡ Err (Settings e)) × (visitor.new ≡ visitor.old)) }
-    ensures errors { IfErr result (IsNoReport (CalledAtMut F.FnMut) V.takes builder.now (S.gives store.old) (HasRisen (S.fault_count store.old) (S.fault_count store.new)) closure visitor.old visitor.new) }
-    ensures left { OnErr result (StillHolds (CalledAtMut F.FnMut) V.takes builder.now (S.gives store.old) (S.holds store.old) (S.holds store.new) closure visitor.old) }
+    ensures errors { builder.now.recorded ≡ false → IfErr result (IsNoReport (CalledAtMut F.FnMut) V.takes builder.now (S.gives store.old) (HasRisen (S.fault_count store.old) (S.fault_count store.new)) closure visitor.old visitor.new) }
+    ensures left { builder.now.recorded ≡ false → OnErr result (StillHolds (CalledAtMut F.FnMut) V.takes builder.now (S.gives store.old) (S.holds store.old) (S.holds store.new) closure visitor.old) }
     ensures faults { CountsFaults result (S.fault_count store.old) (S.fault_count store.new) }
 {
     check_lent_with(rt, alloc, builder, &mut closure, visitor, clock, store, log)
@@ -181,6 +186,42 @@ pub fn check_with<
 
 /// `check_with` of a closure that is called again afterwards.
 pub(crate) fn check_lent_with<
+    D: Exact + 'static,
+    R: Threads + Wait + Clone + Send + 'static,
+    F: FnMut(&mut Handle<D, R>) -> Result<D, Stop>,
+    V: Visitor<D>,
+    C: Clock,
+    S: CheckpointStore,
+    L: Log + Clone + Send + 'static,
+>(
+    rt: &R,
+    alloc: Global,
+    builder: &Builder,
+    closure: &mut F,
+    visitor: &mut V,
+    clock: &mut C,
+    store: &mut S,
+    log: &L,
+) -> Result<Report, RunnerError>
+    requires { F.IsAlwaysCallable closure.old }
+    ensures again { F.IsAlwaysCallable closure.new }
+    ensures reports { IfOk result (ReportsAsAsked (CalledAtMut F.FnMut) V.takes builder.now closure.old visitor.old visitor.new (S.gives store.old) (S.holds store.new) (C.answered clock.new)) }
+    ensures alike { builder.now.recorded ≡ false → IfOk result (ReportsAlike (CalledAtMut F.FnMut) V.takes (limits_of builder.now) closure.old) }
+    ensures changed { builder.now.recorded ≡ false → IfErr result (IsChangedSo (CalledAtMut F.FnMut) V.takes (limits_of builder.now) closure.old) }
+    ensures refused { IfErr (tested builder.now) (λ e. (result ≡ Err (Settings e)) × (visitor.new ≡ visitor.old)) }
+    ensures errors { builder.now.recorded ≡ false → IfErr result (IsNoReport (CalledAtMut F.FnMut) V.takes builder.now (S.gives store.old) (HasRisen (S.fault_count store.old) (S.fault_count store.new)) closure.old visitor.old visitor.new) }
+    ensures left { builder.now.recorded ≡ false → OnErr result (StillHolds (CalledAtMut F.FnMut) V.takes builder.now (S.gives store.old) (S.holds store.old) (S.holds store.new) closure.old visitor.old) }
+    ensures faults { CountsFaults result (S.fault_count store.old) (S.fault_count store.new) }
+{
+    if builder.recorded {
+        check_recorded_lent(rt, alloc, builder, closure, visitor, clock, store, log)
+    } else {
+        check_called(rt, alloc, builder, closure, visitor, clock, store, log)
+    }
+}
+
+/// `check_lent_with` where nothing is recorded: each run is a call of the closure.
+fn check_called<
     D: Exact + 'static,
     R: Threads + Wait + Clone + Send + 'static,
     F: FnMut(&mut Handle<D, R>) -> Result<D, Stop>,

@@ -59,20 +59,40 @@ pub fn check_recorded<
     ensures refused { IfErr (tested builder.now) (λ e. (result ≡ Err (Settings e)) × (visitor.new ≡ visitor.old)) }
     ensures faults { CountsFaults result (S.fault_count store.old) (S.fault_count store.new) }
 {
+    check_recorded_lent(rt, alloc, builder, &mut closure, visitor, clock, store, log)
+}
+
+/// `check_recorded` of a closure that is called again afterwards.
+pub(crate) fn check_recorded_lent<
+    D: Exact + 'static,
+    R: Threads + Wait + Clone + Send + 'static,
+    F: FnMut(&mut Handle<D, R>) -> Result<D, Stop>,
+    V: Visitor<D>,
+    C: Clock,
+    S: CheckpointStore,
+    L: Log + Clone + Send + 'static,
+>(
+    rt: &R,
+    alloc: Global,
+    builder: &Builder,
+    closure: &mut F,
+    visitor: &mut V,
+    clock: &mut C,
+    store: &mut S,
+    log: &L,
+) -> Result<Report, RunnerError>
+    requires { F.IsAlwaysCallable closure.old }
+    ensures again { F.IsAlwaysCallable closure.new }
+    ensures reports { IfOk result (ReportsRecorded (CalledAtMut F.FnMut) V.takes builder.now closure.old visitor.old visitor.new (S.gives store.old) (S.holds store.new) (C.answered clock.new)) }
+    ensures refused { IfErr (tested builder.now) (λ e. (result ≡ Err (Settings e)) × (visitor.new ≡ visitor.old)) }
+    ensures faults { CountsFaults result (S.fault_count store.old) (S.fault_count store.new) }
+{
     builder.test()?;
     let watcher = Watcher::start(rt, alloc, builder.log, log);
     let answer = make_recorded_rounds(
-        rt,
-        alloc,
-        builder,
-        &watcher,
-        &mut closure,
-        visitor,
-        clock,
-        store,
-        log,
+        rt, alloc, builder, &watcher, closure, visitor, clock, store, log,
     );
     watcher.end(rt);
-    tell_failure(rt, alloc, builder, &answer, &mut closure, log);
+    tell_failure(rt, alloc, builder, &answer, closure, log);
     answer
 }

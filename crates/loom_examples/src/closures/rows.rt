@@ -33,6 +33,8 @@ pub enum ClosureRow {
     TwoMutexesDeadlock,
     /// Two threads add to one number.
     FetchAddAtomic,
+    /// Three threads add to one number, twice each.
+    ThreeAdds,
     /// Main locks a mutex beside a thread that does nothing.
     LockBeside,
     /// Two threads wait for each other by turns.
@@ -56,9 +58,10 @@ pub enum ClosureRow {
 }
 
 /// All rows.
-pub const ROWS: [ClosureRow; 12] = [
+pub const ROWS: [ClosureRow; 13] = [
     ClosureRow::TwoMutexesDeadlock,
     ClosureRow::FetchAddAtomic,
+    ClosureRow::ThreeAdds,
     ClosureRow::LockBeside,
     ClosureRow::PingPong,
     ClosureRow::GuardLeft,
@@ -77,6 +80,7 @@ impl ClosureRow {
         match self {
             ClosureRow::TwoMutexesDeadlock => "two_mutexes_deadlock_closures",
             ClosureRow::FetchAddAtomic => "fetch_add_atomic_closures",
+            ClosureRow::ThreeAdds => "three_adds_closures",
             ClosureRow::LockBeside => "lock_beside_closures",
             ClosureRow::PingPong => "runner_ping_pong",
             ClosureRow::GuardLeft => "guard_left_closures",
@@ -118,6 +122,7 @@ impl ClosureRow {
             | ClosureRow::BuggyConcurrentInc => {}
             ClosureRow::LockBeside | ClosureRow::Changes => builder.reduce = false,
             ClosureRow::PingPong => builder.max_branches = 200,
+            ClosureRow::ThreeAdds => builder.preemption_bound = Some(1),
             ClosureRow::TreiberStack => builder.preemption_bound = Some(0),
         }
         builder
@@ -145,12 +150,26 @@ impl ClosureRow {
         alloc: Global,
         builder: &Builder,
     ) -> Result<Report, RunnerError> {
-        let mut is_first = true;
-        let main = |handle: &mut Handle<u64, R>| self.run_next(handle, &mut is_first);
+        self.check_counted(rt, alloc, builder, &mut 0)
+    }
+
+    /// What that check finds. It adds to the count how often it calls main.
+    pub fn check_counted<R: Clock + Files + Threads + Wait + Clone + Send + 'static>(
+        self,
+        rt: &R,
+        alloc: Global,
+        builder: &Builder,
+        calls: &mut u64,
+    ) -> Result<Report, RunnerError> {
+        let mut called = 0u64;
+        let main = |handle: &mut Handle<u64, R>| {
+            called = called.wrapping_add(1);
+            self.run(handle, called == 1)
+        };
         let mut clock = HostClock::start(rt);
         let mut store = file_store(rt, alloc, &builder.checkpoint_file);
         let log = None::<HostRuntime>;
-        check_with(
+        let found = check_with(
             rt,
             alloc,
             builder,
@@ -159,7 +178,9 @@ impl ClosureRow {
             &mut clock,
             &mut store,
             &log,
-        )
+        );
+        *calls = calls.wrapping_add(called);
+        found
     }
 
     /// What checks of the row with rising bounds on preemptions find, by these settings.
@@ -258,6 +279,7 @@ impl ClosureRow {
         match self {
             ClosureRow::TwoMutexesDeadlock => scenes::two_mutexes(handle),
             ClosureRow::FetchAddAtomic => scenes::two_adds(handle),
+            ClosureRow::ThreeAdds => scenes::three_adds(handle),
             ClosureRow::LockBeside => scenes::lock_beside(handle),
             ClosureRow::PingPong => scenes::ping_pong(handle),
             ClosureRow::GuardLeft => scenes::guard_left(handle),

@@ -15,6 +15,8 @@ enum Part {
     LockBoth(Mutex, Mutex),
     /// Adds 1 to the number.
     AddOne(AtomicU64),
+    /// Adds 1 to the number, and 1 more.
+    AddTwice(AtomicU64),
     /// Loads the number, and stores one more.
     LoadAndStore(AtomicU64),
     /// Nothing but end.
@@ -32,6 +34,7 @@ impl Part {
         match self {
             Part::LockBoth(outer, inner) => lock_both(handle, &outer, &inner),
             Part::AddOne(number) => handle.fetch_add(&number, 1, Relaxed),
+            Part::AddTwice(number) => add_twice(handle, &number),
             Part::LoadAndStore(number) => load_and_store(handle, &number),
             Part::End => Ok(3),
             Part::PassThrough(mutex) => pass_through(handle, &mutex),
@@ -104,6 +107,25 @@ pub fn two_adds<R: Threads + Wait + Clone + Send + 'static>(
     let theirs = handle.join(&child)?;
     handle.assert(mine != theirs)?;
     Ok(mine)
+}
+
+/// Three threads add 1 to the same number, twice each.
+pub fn three_adds<R: Threads + Wait + Clone + Send + 'static>(
+    handle: &mut Handle<u64, R>,
+) -> Result<u64, Stop> {
+    let number = handle.atomic(0u64)?;
+    let first = start(handle, Part::AddTwice(number))?;
+    let second = start(handle, Part::AddTwice(number))?;
+    add_twice(handle, &number)?;
+    handle.join(&first)?;
+    handle.join(&second)
+}
+
+/// Adds 1 to the number, and 1 more.
+fn add_twice<R: Wait>(handle: &mut Handle<u64, R>, number: &AtomicU64) -> Result<u64, Stop> {
+    handle.fetch_add(number, 1, Relaxed)?;
+    handle.fetch_add(number, 1, Relaxed)?;
+    Ok(0)
 }
 
 /// Main locks a mutex beside a thread that does nothing but end.

@@ -104,7 +104,8 @@ pub fn run_asked<
         return refuse(err, cause);
     }
     let builder = row.builder_with(rt.alloc(), builder, asked.file)?;
-    let builder = asked.changes.change(builder);
+    let mut builder = asked.changes.change(builder);
+    builder.recorded = asked.records;
     if let Some(walk) = asked.walk {
         return walk_through(rt, log, row, &builder, walk, asked, out, err);
     }

@@ -58,7 +58,7 @@ const NUMBER: Known = Known {
 };
 
 // All options, in the order of the help, which clap adds itself.
-static OPTIONS: [Known; 28] = [
+static OPTIONS: [Known; 29] = [
     // What the program does besides a check.
     Known {
         name: "explain",
@@ -126,6 +126,12 @@ static OPTIONS: [Known; 28] = [
         help: "remember at most this many states",
         needs: Some("cover"),
         ..NUMBER
+    },
+    Known {
+        name: "recorded",
+        help: "record what the threads of closures answer, and make runs of that where all of it is known",
+        conflicts: &["replay", "walk", "cover", "jobs", "split", "part", "gather"],
+        ..FLAG
     },
     Known {
         name: "shorten",
@@ -363,6 +369,8 @@ pub struct RowAsked<'a> {
     pub walk: Option<Walk>,
     /// How many states are remembered at most, if the row is covered.
     pub covers: Option<usize>,
+    /// Whether the threads' answers are recorded, in a row of closures.
+    pub records: bool,
     /// Whether a failure is shortened.
     pub shortens: bool,
     /// Among how many workers the check is shared out, if it is.
@@ -398,6 +406,7 @@ pub fn read<'a>(alloc: Global, words: &'a [&str]) -> Result<Asked<'a>, Error> {
         rises: matches.get_flag("rising"),
         walk: walk(&matches),
         covers: most_states(&matches),
+        records: matches.get_flag("recorded"),
         shortens: matches.get_flag("shorten"),
         jobs: matches.get_one("jobs"),
         share: share_asked(&matches),

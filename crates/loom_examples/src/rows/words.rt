@@ -132,6 +132,9 @@ pub fn run_asked<R: AllocGlobal + Clock + Files, L: Log, O: Write, E: Write>(
     out: &mut O,
     err: &mut E,
 ) -> io::Result<u8> {
+    if asked.records {
+        return refuse(err, "error: '--recorded' is for rows of closures");
+    }
     let Some(replay) = asked.replay else {
         let task = if asked.rises { Task::Rise } else { Task::Check };
         return run_task(rt, log, task, asked, out, err);

@@ -121,6 +121,17 @@ fn check_locks<R: Host>(rt: &R, builder: &Builder) -> Result<Report, RunnerError
     check(rt, rt.alloc(), builder, main, &mut NoVisitor)
 }
 
+/// A check that records finds what one by calls finds.
+#[test]
+fn a_recorded_check_finds_the_same(rt: HostRuntime) -> Result<(), Fail> {
+    let mut builder = Builder::new();
+    let called = check_locks(&rt, &builder)?;
+    builder.recorded = true;
+    let recorded = check_locks(&rt, &builder)?;
+    assert!(rt; recorded == called, "{recorded}");
+    Ok(())
+}
+
 /// One run of that by these choices, and then by defaults.
 fn follow<R: Host>(rt: &R, choices: &[Choice]) -> Result<Replay<()>, RunnerError> {
     let main = |handle: &mut Handle<(), R>| opposite_order(handle);

@@ -12,13 +12,14 @@ use std::test::Fail;
 use std::thread::Threads;
 
 /// Each row's line and status.
-static LINES: [(&str, &str, u8); 12] = [
+static LINES: [(&str, &str, u8); 13] = [
     (
         "two_mutexes_deadlock_closures",
         "failed 2 3 t1 t1 t2 t2 t-\n",
         1,
     ),
     ("fetch_add_atomic_closures", "complete 4\n", 0),
+    ("three_adds_closures", "complete 12\n", 0),
     ("lock_beside_closures", "complete 3\n", 0),
     ("runner_ping_pong", "complete 1\n", 0),
     ("guard_left_closures", "failed 2 0 t0 t1 t-\n", 1),
@@ -121,7 +122,7 @@ struct Said {
     status: u8,
 }
 
-static SAID: [Said; 11] = [
+static SAID: [Said; 13] = [
     Said {
         words: &["--replay", "t9 l0", "lock_beside_closures"],
         out: "",
@@ -148,6 +149,18 @@ static SAID: [Said; 11] = [
     },
     Said {
         words: &["--rising", "two_mutexes_deadlock_closures"],
+        out: "bound 1 failed 2 2 t1 t1 t2 t2 t-\n",
+        err: "",
+        status: 1,
+    },
+    Said {
+        words: &["--recorded", "store_buffering_closures"],
+        out: "complete 30\n",
+        err: "",
+        status: 0,
+    },
+    Said {
+        words: &["--recorded", "--rising", "two_mutexes_deadlock_closures"],
         out: "bound 1 failed 2 2 t1 t1 t2 t2 t-\n",
         err: "",
         status: 1,

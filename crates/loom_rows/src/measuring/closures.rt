@@ -1,4 +1,4 @@
-//! The rows of closures that are measured beside the bodies of the same operations.
+//! The rows of closures that are measured beside the bodies of the same operations: by calls alone, and recorded.
 use loom_examples::closures::rows::ClosureRow;
 use loom_examples::rows::WHOLE;
 use loom_examples::rows::settings::Settings;
@@ -6,7 +6,7 @@ use loom_examples::rows::settings::Settings;
 /// A row of closures, and how it is measured.
 #[derive(Clone, Copy)]
 pub(crate) struct Closures {
-    /// The name of the body with the same operations, and `closures`.
+    /// The name of the body with the same operations, `closures`, and `recorded` where they are.
     pub name: &'static str,
     /// What is checked.
     pub row: ClosureRow,
@@ -14,23 +14,59 @@ pub(crate) struct Closures {
     pub checks: u64,
     /// How it is checked.
     pub settings: Settings,
-    /// How many threads of the host a run starts.
+    /// Whether the threads' answers are recorded.
+    pub records: bool,
+    /// How many threads of the host a call of main starts.
     pub threads: u32,
 }
 
-static ALL: [Closures; 2] = [
+static ALL: [Closures; 6] = [
     Closures {
         name: "store_buffering closures",
         row: ClosureRow::StoreBuffering,
-        checks: 20,
+        checks: 200,
         settings: WHOLE,
+        records: false,
+        threads: 1,
+    },
+    Closures {
+        name: "store_buffering closures recorded",
+        row: ClosureRow::StoreBuffering,
+        checks: 200,
+        settings: WHOLE,
+        records: true,
         threads: 1,
     },
     Closures {
         name: "locks_crosswise closures",
         row: ClosureRow::TwoMutexesDeadlock,
-        checks: 20,
+        checks: 200,
         settings: WHOLE,
+        records: false,
+        threads: 2,
+    },
+    Closures {
+        name: "locks_crosswise closures recorded",
+        row: ClosureRow::TwoMutexesDeadlock,
+        checks: 200,
+        settings: WHOLE,
+        records: true,
+        threads: 2,
+    },
+    Closures {
+        name: "three_adds closures",
+        row: ClosureRow::ThreeAdds,
+        checks: 2,
+        settings: WHOLE,
+        records: false,
+        threads: 2,
+    },
+    Closures {
+        name: "three_adds closures recorded",
+        row: ClosureRow::ThreeAdds,
+        checks: 2,
+        settings: WHOLE,
+        records: true,
         threads: 2,
     },
 ];

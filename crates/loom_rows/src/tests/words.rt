@@ -96,7 +96,7 @@ static WORDS: [Said; 11] = [
 ];
 
 // Wrong words, and why they are refused.
-static WRONG: [Said; 16] = [
+static WRONG: [Said; 17] = [
     said!(&[], "", NO_NAME, 2),
     said!(&["lock_besides"], "", NO_SUCH_ROW, 2),
     said!(&[""], "", usage!("no row is called ''"), 2),
@@ -163,6 +163,12 @@ static WRONG: [Said; 16] = [
         usage!(
             "the argument '--list' cannot be used with one or more of the other specified arguments"
         ),
+        2
+    ),
+    said!(
+        &["--recorded", "lock_beside"],
+        "",
+        usage!("'--recorded' is for rows of closures"),
         2
     ),
     said!(

@@ -1,38 +1,41 @@
-use Rattle.std.proofs.Common.{inl, refl, sym}
 use Rattle.std.specs.Fn.{CalledAtMut}
-use Rattle.loom.specs.Model.Stores.{HasRisen}
-use Rattle.loom.specs.Runner.Check.{limits_of}
-use Rattle.loom.specs.Runner.Errors.{of_check}
-use Rattle.loom.proofs.Closures.Alike.{no_change, other_error}
-use Rattle.loom.proofs.Closures.Erring.{refused_so, settings_faultless}
-use Rattle.loom.proofs.Closures.Refusing.{broken, handed_on, refused}
-use Rattle.loom.proofs.ModelLemmas.Errors.{on_error}
+use Rattle.loom.proofs.Closures.AsAsked.{as_called, as_recorded}
 use Rattle.loom.proofs.runner.checks.check_lent_with.Goals as goal
 
-pub returns-in_err-test-clause-refused : goal.returns-in_err-test-clause-refused
-returns-in_err-test-clause-refused g c =
-    refused_so c.args.builder.now c.from_residual.result c.in_err-test.field-0.0 _ c.from_residual.ensures.1 (sym c.in_err-test.ensures.tested) refl
+-- ---- recorded
 
-pub returns-in_err-test-clause-errors : goal.returns-in_err-test-clause-errors
-returns-in_err-test-clause-errors g c =
-    refused (CalledAtMut g.F.FnMut) g.V.Visitor.takes c.args.builder.now (g.S.CheckpointStore.gives c.args.store.now)
-    (HasRisen (g.S.CheckpointStore.fault_count c.args.store.now) (g.S.CheckpointStore.fault_count c.args.store.now)) c.args.closure.now c.args.visitor.now c.args.visitor.now c.from_residual.result
-    c.in_err-test.field-0.0 c.from_residual.ensures.1 (sym c.in_err-test.ensures.tested) refl
+pub returns-then-builder-clause-reports : goal.returns-then-builder-clause-reports
+returns-then-builder-clause-reports g c =
+    as_recorded (CalledAtMut g.F.FnMut) g.V.Visitor.takes c.args.builder.now c.args.closure.now c.args.visitor.now c.check_recorded_lent.new.visitor (g.S.CheckpointStore.gives c.args.store.now)
+    (g.S.CheckpointStore.holds c.check_recorded_lent.new.store) (g.C.Clock.answered c.check_recorded_lent.new.clock) c.check_recorded_lent.result c.if-builder.true c.check_recorded_lent.ensures.reports
 
-pub returns-in_err-test-clause-left : goal.returns-in_err-test-clause-left
-returns-in_err-test-clause-left g c = on_error c.from_residual.result (inl (λ text held. held))
+pub returns-then-builder-clause-alike : goal.returns-then-builder-clause-alike
+returns-then-builder-clause-alike g c = λ off. absurd (cc (off, c.if-builder.true))
 
-pub returns-in_err-test-clause-faults : goal.returns-in_err-test-clause-faults
-returns-in_err-test-clause-faults g c =
-    settings_faultless c.args.builder.now c.from_residual.result c.in_err-test.field-0.0 _ _ c.from_residual.ensures.1 (sym c.in_err-test.ensures.tested) refl
+pub returns-then-builder-clause-changed : goal.returns-then-builder-clause-changed
+returns-then-builder-clause-changed g c = λ off. absurd (cc (off, c.if-builder.true))
 
-pub returns-clause-errors : goal.returns-clause-errors
-returns-clause-errors g c =
-    broken (CalledAtMut g.F.FnMut) g.V.Visitor.takes c.args.builder.now (g.S.CheckpointStore.gives c.args.store.now)
-    (HasRisen (g.S.CheckpointStore.fault_count c.args.store.now) (g.S.CheckpointStore.fault_count c.make_rounds-answer.new.store)) c.args.closure.now c.args.visitor.now c.make_rounds-answer.new.visitor
-    c.make_rounds-answer.result (sym c.in_ok-test.ensures.tested) c.make_rounds-answer.ensures.errors
+pub returns-then-builder-clause-errors : goal.returns-then-builder-clause-errors
+returns-then-builder-clause-errors g c = λ off. absurd (cc (off, c.if-builder.true))
 
-pub returns-in_err-test-clause-changed : goal.returns-in_err-test-clause-changed
-returns-in_err-test-clause-changed g c =
-    handed_on c.from_residual.result (of_check c.in_err-test.field-0.0) _ c.from_residual.ensures.1
-    (no_change (CalledAtMut g.F.FnMut) g.V.Visitor.takes (limits_of c.args.builder.now) c.args.closure.now (of_check c.in_err-test.field-0.0) (other_error c.in_err-test.field-0.0))
+pub returns-then-builder-clause-left : goal.returns-then-builder-clause-left
+returns-then-builder-clause-left g c = λ off. absurd (cc (off, c.if-builder.true))
+
+-- ---- called
+
+pub returns-else-builder-clause-reports : goal.returns-else-builder-clause-reports
+returns-else-builder-clause-reports g c =
+    as_called (CalledAtMut g.F.FnMut) g.V.Visitor.takes c.args.builder.now c.args.closure.now c.args.visitor.now c.check_called.new.visitor (g.S.CheckpointStore.gives c.args.store.now)
+    (g.S.CheckpointStore.holds c.check_called.new.store) (g.C.Clock.answered c.check_called.new.clock) c.check_called.result c.if-builder.false c.check_called.ensures.reports
+
+pub returns-else-builder-clause-alike : goal.returns-else-builder-clause-alike
+returns-else-builder-clause-alike g c = λ off. c.check_called.ensures.alike
+
+pub returns-else-builder-clause-changed : goal.returns-else-builder-clause-changed
+returns-else-builder-clause-changed g c = λ off. c.check_called.ensures.changed
+
+pub returns-else-builder-clause-errors : goal.returns-else-builder-clause-errors
+returns-else-builder-clause-errors g c = λ off. c.check_called.ensures.errors
+
+pub returns-else-builder-clause-left : goal.returns-else-builder-clause-left
+returns-else-builder-clause-left g c = λ off. c.check_called.ensures.left
