@@ -38,7 +38,6 @@ use crate::checkpoint::files::HostFiles;
 use crate::checkpoint::store::CheckpointStore;
 pub use crate::model::builder::Builder;
 use crate::model::clock::{Clock, NoClock};
-pub use crate::model::different::Different;
 use crate::model::error::CheckError;
 use crate::model::receiver::{Listed, NoReceiver, Unlisted};
 pub use crate::model::report::Report;

@@ -3,6 +3,7 @@ use crate::asserting::holds;
 use loom::model::visitor::Visitor;
 use loom::model::{Builder, Replay, Walk, Walked};
 use loom::{Choice, FailureKind, NoClock};
+use loom_examples::rows::tables::first::STORE_BUFFERING;
 use loom_examples::rows::tables::limits::SPIN_ALONE;
 use loom_examples::rows::tables::walks::{FIVE_COUNTING, THREE_PLANTED};
 use loom_examples::scripts::script::Script;
@@ -95,6 +96,23 @@ fn are_others(alloc: Global, depth: Option<u32>) -> bool {
     )
 }
 
+// What a walk through store buffering finds that tells so many runs apart at most.
+fn found_apart(alloc: Global, most: usize) -> Option<Walked> {
+    let mut builder = Builder::new();
+    builder.max_different = Some(most);
+    let (found, _choices) = walked(alloc, &builder, STORE_BUFFERING, walk_of(1, None, 5_000))?;
+    Some(found)
+}
+
+// The report of that walk, if so many of its runs are told to differ.
+fn apart(different: Option<u64>) -> Option<Walked> {
+    Some(Walked::Made {
+        runs: 5_000,
+        cut: 0,
+        different,
+    })
+}
+
 // Whether the failure that a walk finds is shortened, to one that fails too.
 fn is_shortened(alloc: Global, depth: Option<u32>) -> Option<bool> {
     let builder = Builder::new();
@@ -141,11 +159,26 @@ fn counts_what_is_cut(rt: HostRuntime) {
     let found = walked(rt.alloc(), &Builder::new(), SPIN_ALONE, walk);
     let is_so = match found {
         Some((found, choices)) => {
-            found == Walked::Made { runs: 0, cut: 10 } && choices.is_empty()
+            found
+                == Walked::Made {
+                    runs: 0,
+                    cut: 10,
+                    different: None,
+                }
+                && choices.is_empty()
         }
         None => false,
     };
     holds(&rt, is_so, "runs without an end");
+}
+
+#[test]
+fn tells_how_many_differ(rt: HostRuntime) {
+    // There are 48 runs, and in so many draws each of them comes.
+    let found = found_apart(rt.alloc(), 48);
+    holds(&rt, found == apart(Some(48)), "as many as there are");
+    let found = found_apart(rt.alloc(), 47);
+    holds(&rt, found == apart(None), "more than are told apart");
 }
 
 #[test]

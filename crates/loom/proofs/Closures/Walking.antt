@@ -1,6 +1,6 @@
 -- A walk of a closure under way, and the runs that it makes.
-use Rattle.std.proofs.Common.{◌≡◌, ◌≤◌, ◌<◌, ◌+◌, ◌-◌, ◌∙◌, ℕ, suc, inl, inr, Bool, true, false, List, [], refl, sym, ap, subst, arith, Some, Result, Ok, Err, IfOk}
-use Rattle.std.specs.Prelude.{⊤, Vec}
+use Rattle.std.proofs.Common.{◌≡◌, ◌≤◌, ◌<◌, ◌+◌, ◌-◌, ◌∙◌, ℕ, suc, inl, inr, Bool, true, false, List, [], ◌∷◌, length, refl, sym, ap, subst, arith, Option, None, Some, Result, Ok, Err, IfOk}
+use Rattle.std.specs.Prelude.{⊤, IfSome, Vec}
 use Rattle.std.specs.declared.alloc.Global.{Global}
 use Rattle.std.specs.declared.time.Duration.{Duration}
 use Rattle.loom_objects.specs.declared.choice.Choice.{Choice}
@@ -12,6 +12,7 @@ use Rattle.loom.specs.declared.model.builder.Builder.{Builder}
 use Rattle.loom.specs.declared.model.walk.Walk.{Walk}
 use Rattle.loom.specs.declared.model.walk.Walked.TheVariants as walked
 use Rattle.loom.specs.Model.Check.{HasLasted}
+use Rattle.loom.specs.Model.Different.{Counted, IsCount, Notes, TellsDifferent, hash_of}
 use Rattle.loom.specs.Model.Walking.{asked_runs, is_cut}
 use Rattle.loom.specs.declared.runner.drawn.DrawnEnd.{DrawnEnd}
 use Rattle.loom.specs.declared.runner.drawn.DrawnEnd.TheVariants.{Ended, Cut, Failed}
@@ -28,6 +29,7 @@ use Rattle.loom.specs.Runner.Made.{Made, MadeBy}
 use Rattle.loom.specs.Runner.Replay.{following}
 use Rattle.loom.specs.Runner.Run.{Checked, WasCalled}
 use Rattle.loom.specs.Runner.Walking.{BreaksOff, HasGone, IsNoDrawnRun, IsNotJudgedDrawn, JudgedDrawn, Walks, WasDrawn, Went, begins, cuts, gives}
+use Rattle.loom.proofs.ModelLemmas.Noting.{Tells, are_different, tells_more, tells_none}
 use Rattle.loom.proofs.RunnerLemmas.Leading.{own_lead}
 use Rattle.loom.proofs.RunnerLemmas.Made.{checked, made_by, made_of}
 
@@ -70,7 +72,7 @@ module _ {D F V : Type 0} (called : F → Teller D → Result D Stop → F → T
     made_so checked = made_by called takes limits f f' (led_by (chosen log.now.route) path) (led_log (chosen log.now.route) log) told (newcomer 0) was.handle was.answer refl was.call was.main checked
 
     was_drawn : (end : DrawnEnd) → JudgedDrawn takes limits v path log told end v' → WasDrawn called takes limits f v path end f' v'
-    was_drawn Ended j = (own_run, refl, record { made = made_so j.0; value = j.1.value; ended = j.1.ended; taken = j.1.taken })
+    was_drawn (Ended hash) j = (own_run, refl, j.2, record { made = made_so j.0; value = j.1.value; ended = j.1.ended; taken = j.1.taken })
     was_drawn Cut j = (own_run, refl, made_so j.0, j.1, j.2)
     was_drawn (Failed failure choices) j = (own_run, refl, made_so j.0, j.1, j.2, j.3)
 
@@ -96,16 +98,17 @@ module _ {D F V : Type 0} (called : F → Teller D → Result D Stop → F → T
 -- ---- runs one after another
 
 module _ {D F V : Type 0} (called : F → Teller D → Result D Stop → F → Teller D → Type 0) (takes : V → List Choice → D → V → Type 0) (b : Builder) (f0 : F) (v0 : V) where
-  -- of so many runs so many were cut, and the visitor was given the others
-  pub record IsWalking (f : F) (v : V) (number cut : ℕ) : Type 0 where
-    pub count : ℕ
-    pub went : Went called takes b f0 v0 count cut f v
-    pub adds : count + cut ≡ number
+  -- of so many runs so many were cut; the visitor was given the others, and their hashes were noted
+  pub record IsWalking (f : F) (v : V) (d : Counted) (number cut : ℕ) : Type 0 where
+    pub lists : List (List Choice)
+    pub went : Went called takes b f0 v0 lists cut f v
+    pub tells : Tells d lists
+    pub adds : length lists + cut ≡ number
 
-  pub walking_start : IsWalking f0 v0 0 0
-  walking_start = record { count = 0; went = begins; adds = refl }
+  pub walking_start : (d : Counted) → d.hashes ≡ [] → IsWalking f0 v0 d 0 0
+  walking_start d none = record { lists = []; went = begins; tells = tells_none d none; adds = refl }
 
-  module _ (f : F) (v : V) (number cut : ℕ) (z : IsWalking f v number cut) where
+  module _ (f : F) (v : V) (d : Counted) (number cut : ℕ) (z : IsWalking f v d number cut) where
     pub few_cut : cut ≤ number
     few_cut = omega (arith, z.adds)
 
@@ -114,35 +117,47 @@ module _ {D F V : Type 0} (called : F → Teller D → Result D Stop → F → T
       by_own m began = began ∙ ap (led_by (chosen m.log.now.route)) start
 
       -- the visitor is given one more
-      walking_on : (f' : F) (v' : V) → WasDrawn called takes (limits_of b) f v path Ended f' v' → IsWalking f' v' (number + 1) cut
-      walking_on f' v' (m, began, given) = record { count = suc z.count; went = gives z.count cut f f' v v' m z.went (by_own m began) given; adds = omega (arith, z.adds) }
+      walking_on : (f' : F) (v' : V) (hash : ℕ) (noted : Counted) → WasDrawn called takes (limits_of b) f v path (Ended hash) f' v' → Notes hash d noted → IsWalking f' v' noted (number + 1) cut
+      walking_on f' v' hash noted (m, began, is, given) notes = record {
+        lists = chosen m.log.now.route ∷ z.lists;
+        went = gives z.lists cut f f' v v' m z.went (by_own m began) given;
+        tells = tells_more d noted (chosen m.log.now.route) z.lists z.tells (subst (λ (h : ℕ). Notes h d noted) is notes);
+        adds = omega (arith, z.adds);
+      }
 
       -- one more is cut
-      walking_cut : (f' : F) (v' : V) → WasDrawn called takes (limits_of b) f v path Cut f' v' → IsWalking f' v' (number + 1) (cut + 1)
+      walking_cut : (f' : F) (v' : V) → WasDrawn called takes (limits_of b) f v path Cut f' v' → IsWalking f' v' d (number + 1) (cut + 1)
       walking_cut f' v' (m, began, made, was, same) =
           let more : suc cut ≡ cut + 1 = omega arith in
           record {
-            count = z.count;
-            went = subst (λ (n : ℕ). Went called takes b f0 v0 z.count n f' v') more
-                (subst (λ (w : V). Went called takes b f0 v0 z.count (suc cut) f' w) (sym same) (cuts z.count cut f f' v m z.went (by_own m began) made was));
+            lists = z.lists;
+            went = subst (λ (n : ℕ). Went called takes b f0 v0 z.lists n f' v') more
+                (subst (λ (w : V). Went called takes b f0 v0 z.lists (suc cut) f' w) (sym same) (cuts z.lists cut f f' v m z.went (by_own m began) made was));
+            tells = z.tells;
             adds = omega (arith, z.adds);
           }
 
-      pub drawn_on : (f' : F) (v' : V) (end : DrawnEnd) → WasDrawn called takes (limits_of b) f v path end f' v' → end ≡ Ended → (is : ℕ) → is ≡ cut → IsWalking f' v' (number + 1) is
-      drawn_on f' v' end was ends is same =
-          subst (λ (n : ℕ). IsWalking f' v' (number + 1) n) (sym same) (walking_on f' v' (subst (λ (e : DrawnEnd). WasDrawn called takes (limits_of b) f v path e f' v') ends was))
+      pub drawn_on : (f' : F) (v' : V) (end : DrawnEnd) (hash : ℕ) → WasDrawn called takes (limits_of b) f v path end f' v' → end ≡ Ended hash → (is : ℕ) → is ≡ cut → (noted : Counted) → Notes hash d noted
+          → IsWalking f' v' noted (number + 1) is
+      drawn_on f' v' end hash was ends is same noted notes =
+          subst (λ (n : ℕ). IsWalking f' v' noted (number + 1) n) (sym same)
+          (walking_on f' v' hash noted (subst (λ (e : DrawnEnd). WasDrawn called takes (limits_of b) f v path e f' v') ends was) notes)
 
-      pub drawn_cut : (f' : F) (v' : V) (end : DrawnEnd) → WasDrawn called takes (limits_of b) f v path end f' v' → end ≡ Cut → (is : ℕ) → is ≡ cut + 1 → IsWalking f' v' (number + 1) is
-      drawn_cut f' v' end was ends is same =
-          subst (λ (n : ℕ). IsWalking f' v' (number + 1) n) (sym same) (walking_cut f' v' (subst (λ (e : DrawnEnd). WasDrawn called takes (limits_of b) f v path e f' v') ends was))
+      pub drawn_cut : (f' : F) (v' : V) (end : DrawnEnd) → WasDrawn called takes (limits_of b) f v path end f' v' → end ≡ Cut → (is : ℕ) → is ≡ cut + 1 → (noted : Counted) → noted ≡ d
+          → IsWalking f' v' noted (number + 1) is
+      drawn_cut f' v' end was ends is same noted unnoted =
+          subst (λ (n : ℕ). IsWalking f' v' noted (number + 1) n) (sym same) (subst (λ (c : Counted). IsWalking f' v' c (number + 1) (cut + 1)) (sym unnoted)
+          (walking_cut f' v' (subst (λ (e : DrawnEnd). WasDrawn called takes (limits_of b) f v path e f' v') ends was)))
 
       -- one failed
       walking_failed : (f' : F) (v' : V) (failure : Failure) (choices : Vec Choice Global) → WasDrawn called takes (limits_of b) f v path (Failed failure choices) f' v'
-          → (walk : Walk) (answered : Duration → Type 0) (count : ℕ) → z.count ≡ count → number < asked_runs walk → Walks called takes b f0 v0 v' walk answered (walked.Failed count cut failure choices)
+          → (walk : Walk) (answered : Duration → Type 0) (count : ℕ) → length z.lists ≡ count → number < asked_runs walk → Walks called takes b f0 v0 v' walk answered (walked.Failed count cut failure choices)
       walking_failed f' v' failure choices (m, began, made, failed, uncut, same) walk answered count left more = (
         record {
+          lists = z.lists;
+          counted = left;
           before = f;
-          went = subst (λ (w : V). Went called takes b f0 v0 count cut f w) (sym same) (subst (λ (n : ℕ). Went called takes b f0 v0 n cut f v) left z.went);
+          went = subst (λ (w : V). Went called takes b f0 v0 z.lists cut f w) (sym same) z.went;
           replays = (m, record { began = by_own m began ∙ ap (following b) (sym failed.1); after = f'; call = made.call; settled = made.settled }, failed.0, failed.1);
           uncut = uncut;
         },
@@ -157,7 +172,7 @@ module _ {D F V : Type 0} (called : F → Teller D → Result D Stop → F → T
       -- or gave no end
       pub drawn_nothing : (v' : V) (e : RunnerError) (walk : Walk) → number < asked_runs walk → IsNoDrawnRun called takes (limits_of b) f v path e v' → BreaksOff called takes b walk f0 v0 v' e
       drawn_nothing v' e walk more without = record {
-        runs = z.count;
+        lists = z.lists;
         cut = cut;
         few = omega (arith, z.adds, more);
         before = f;
@@ -166,12 +181,19 @@ module _ {D F V : Type 0} (called : F → Teller D → Result D Stop → F → T
         why = subst (λ (p : Route). IsNoDrawnRun called takes (limits_of b) f v p e v') start without;
       }
 
-    gone : (count : ℕ) → count ≡ number - cut → HasGone called takes b f0 v0 v count cut
-    gone count e = let left : z.count ≡ count = omega (arith, z.adds, e) in record { after = f; went = subst (λ (n : ℕ). Went called takes b f0 v0 n cut f v) left z.went }
+    -- these were the others, so many
+    abbrev gone : (count : ℕ) → count ≡ number - cut → HasGone called takes b f0 v0 v count cut
+    gone count e = let left : length z.lists ≡ count = omega (arith, z.adds, e) in record { lists = z.lists; counted = left; after = f; went = z.went }
 
-    pub walked_all : (walk : Walk) (answered : Duration → Type 0) (count : ℕ) → count ≡ number - cut → number ≡ asked_runs walk → Walks called takes b f0 v0 v walk answered (walked.Made count cut)
-    walked_all walk answered count e all = (gone count e, inl (omega (arith, z.adds, e, all)))
+    -- and so many of them differ
+    told_so : (told : Option ℕ) → IfSome told (IsCount d) → TellsDifferent told z.lists
+    told_so None is = tt
+    told_so (Some count) is = are_different d z.lists count z.tells is
 
-    pub walked_up : (walk : Walk) (answered : Duration → Type 0) (count : ℕ) → count ≡ number - cut → number < asked_runs walk → HasLasted answered b.max_duration
-        → Walks called takes b f0 v0 v walk answered (walked.Made count cut)
-    walked_up walk answered count e more lasted = (gone count e, inr (omega (arith, z.adds, e, more), lasted))
+    pub walked_all : (walk : Walk) (answered : Duration → Type 0) (count : ℕ) (told : Option ℕ) → count ≡ number - cut → number ≡ asked_runs walk → IfSome told (IsCount d)
+        → Walks called takes b f0 v0 v walk answered (walked.Made count cut told)
+    walked_all walk answered count told e all is = (gone count e, told_so told is, inl (omega (arith, z.adds, e, all)))
+
+    pub walked_up : (walk : Walk) (answered : Duration → Type 0) (count : ℕ) (told : Option ℕ) → count ≡ number - cut → number < asked_runs walk → IfSome told (IsCount d) → HasLasted answered b.max_duration
+        → Walks called takes b f0 v0 v walk answered (walked.Made count cut told)
+    walked_up walk answered count told e more is lasted = (gone count e, told_so told is, inr (omega (arith, z.adds, e, more), lasted))

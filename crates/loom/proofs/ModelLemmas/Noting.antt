@@ -1,17 +1,20 @@
--- A count of different runs: what it has where one more is noted, and what it says of the runs.
-use Rattle.std.proofs.Common.{◌≡◌, ◌∙◌, ◌⊎◌, ◌+◌, ℕ, suc, inl, inr, Bool, true, false, cond, List, [], ◌∷◌, length, refl, sym, ap, subst, IsTrue, nat_eq}
-use Rattle.std.specs.Prelude.{◌||◌, map}
+-- A count of different runs: what it has where one more is noted, and what it tells of the runs.
+use Rattle.std.proofs.Common.{◌≡◌, ◌∙◌, ◌⊎◌, ℕ, suc, inl, inr, Bool, true, false, cond, List, [], ◌∷◌, length, refl, sym, ap, subst, IsTrue, nat_eq}
+use Rattle.std.specs.Prelude.{◌||◌, ◌↔◌, map}
 use Rattle.std.specs.List.{AllByRecursion, IsDistinct, list_any}
 use Rattle.std.specs.HashSet as bag
 use Rattle.std.specs.HashSet.{HashSet}
 use Rattle.std.proofs.lemmas.Cmp.{nat_eq_equiv}
 use Rattle.std.proofs.lemmas.Map.Views.{exact_unsigned_eq}
 use Rattle.loom_objects.specs.declared.choice.Choice.{Choice}
-use Rattle.loom.specs.Model.Different.{AreDifferent, Counted, DifferentLaw, Has, IsCount, Notes, begins_with, hash_of}
 use Rattle.loom_engine.specs.Walk.Lists.{Each, IsOnce, Member}
-use Rattle.loom.specs.Model.Parts.{GivenBack}
+use Rattle.loom.specs.Model.Different.{AllDifferentLaw, AreDifferent, Counted, Has, HasHash, IsCount, Notes, hash_of}
 
 -- ---- one more
+
+-- where the number is left out nothing is said
+pub unsaid : (hash : ℕ) (old new : Counted) → new.is_left_out ≡ true → Notes hash old new
+unsaid hash old new is = record { still = λ e. absurd (cc (is, e)); noted = λ e. absurd (cc (is, e)) }
 
 either : (here there : Bool) → IsTrue (cond here true there) → (here ≡ true) ⊎ IsTrue there
 either true there is = inl refl
@@ -25,32 +28,43 @@ behind : (here there : Bool) → IsTrue there → IsTrue (cond here true there)
 behind true there is = refl
 behind false there is = is
 
-pub noted_by : {S : Type 0} (old new : HashSet ℕ S) (hash : ℕ) (is_full : Bool) → bag.Updates nat_eq old new hash true
-    → Notes hash (record { hashes = old.keys; is_full = is_full }) (record { hashes = new.keys; is_full = is_full })
-noted_by old new hash is_full updates = record {
-  from = λ h has. (elim (either (nat_eq hash h) (bag.contains nat_eq old h) (subst IsTrue (updates.0 h) has)) [
-    | inl is ↦ inl (sym (exact_unsigned_eq hash h is))
-    | inr is ↦ inr is
-  ]);
-  noted = λ room. subst IsTrue (sym (updates.0 hash)) (in_place (nat_eq hash hash) (bag.contains nat_eq old hash) (nat_eq_equiv.refl hash));
-  kept = λ h has. subst IsTrue (sym (updates.0 h)) (behind (nat_eq hash h) (bag.contains nat_eq old h) has);
-  full = λ room. room;
+-- the set has taken the hash in
+pub noted_by : {S : Type 0} (old new : HashSet ℕ S) (hash : ℕ) (is_left_out : Bool) → bag.Updates nat_eq old new hash true
+    → Notes hash (record { hashes = old.keys; is_left_out = is_left_out }) (record { hashes = new.keys; is_left_out = is_left_out })
+noted_by old new hash is_left_out updates = record {
+  still = λ told. told;
+  noted = λ told h. (
+    λ has. (elim (either (nat_eq hash h) (bag.contains nat_eq old h) (subst IsTrue (updates.0 h) has)) [
+      | inl same ↦ inl (sym (exact_unsigned_eq hash h same))
+      | inr had ↦ inr had
+    ]),
+    λ came. (elim came [
+      | inl same ↦ subst IsTrue (sym (updates.0 h)) (in_place (nat_eq hash h) (bag.contains nat_eq old h) (subst (λ (k : ℕ). nat_eq hash k ≡ true) (sym same) (nat_eq_equiv.refl hash)))
+      | inr had ↦ subst IsTrue (sym (updates.0 h)) (behind (nat_eq hash h) (bag.contains nat_eq old h) had)
+    ]),
+  );
 }
 
 -- ---- the runs
 
--- a list of these has the hash
-abbrev Comes : List (List Choice) → ℕ → Type 0
-Comes lists hash = (x : List Choice) × Member x lists × (hash_of x ≡ hash)
+-- the hashes are those of these lists, unless their number is left out
+abbrev pub Tells : Counted → List (List Choice) → Type 0
+Tells d lists = d.is_left_out ≡ false → (h : ℕ) → Has d.hashes h ↔ HasHash h lists
 
-module _ {D : Type 0} where
-  -- each hash is one of a run
-  comes : (runs : List (List Choice × D)) (new : Counted) → GivenBack (λ old choices (value : D) now. Notes (hash_of choices) old now) begins_with runs new → (h : ℕ) → Has new.hashes h → Comes (map (λ run. run.0) runs) h
-  comes [] new is h has = cc (subst (λ (d : Counted). Has d.hashes h) is has)
-  comes (run ∷ runs) new (mid, before, notes) h has = elim (notes.from h has) [
-    | inl is ↦ (run.0, inl refl, sym is)
-    | inr had ↦ (let c = comes runs mid before h had in (c.0, inr c.1, c.2))
-  ]
+pub tells_none : (d : Counted) → d.hashes ≡ [] → Tells d []
+tells_none d none told h = (λ has. absurd (cc (subst (λ (hashes : List ℕ). Has hashes h) none has)), λ has. absurd has.1)
+
+pub tells_more : (d new : Counted) (x : List Choice) (lists : List (List Choice)) → Tells d lists → Notes (hash_of x) d new → Tells new (x ∷ lists)
+tells_more d new x lists tells notes told h = (
+  λ has. (elim ((notes.noted told h).0 has) [
+    | inl is ↦ (x, inl refl, sym is)
+    | inr had ↦ (let c = (tells (notes.still told) h).0 had in (c.0, inr c.1, c.2))
+  ]),
+  λ has. (elim has.1 [
+    | inl same ↦ (notes.noted told h).1 (inl (sym has.2 ∙ ap hash_of same))
+    | inr member ↦ (notes.noted told h).1 (inr ((tells (notes.still told) h).1 (has.0, member, has.2)))
+  ]),
+)
 
 -- ---- different ones
 
@@ -61,13 +75,17 @@ later : (b : Bool) (there : Bool) → IsTrue there → IsTrue (b || there)
 later true there is = refl
 later false there is = is
 
+here_or_later : (b : Bool) (there : Bool) → IsTrue (b || there) → (b ≡ true) ⊎ IsTrue there
+here_or_later true there is = inl refl
+here_or_later false there is = inr is
+
 -- a list for each hash
 pub record Picked (hashes : List ℕ) (lists : List (List Choice)) : Type 0 where
   pub some : List (List Choice)
   pub by : map hash_of some ≡ hashes
   pub among : Each (λ x. Member x lists) some
 
-pick : (hashes : List ℕ) (lists : List (List Choice)) → ((h : ℕ) → Has hashes h → Comes lists h) → Picked hashes lists
+pick : (hashes : List ℕ) (lists : List (List Choice)) → ((h : ℕ) → Has hashes h → HasHash h lists) → Picked hashes lists
 pick [] lists all = record { some = []; by = refl; among = tt }
 pick (h ∷ hashes) lists all =
     let first = all h (here h hashes) in
@@ -89,12 +107,36 @@ length_map : (some : List (List Choice)) → length (map hash_of some) ≡ lengt
 length_map [] = refl
 length_map (x ∷ some) = ap suc (length_map some)
 
-pub different_law : {D : Type 0} → DifferentLaw D
-different_law runs new count given is =
-    let picked = pick new.hashes (map (λ run. run.0) runs) (comes runs new given) in
+-- a hash among theirs is that of one of them
+one_has : (h : ℕ) (some : List (List Choice)) → Has (map hash_of some) h → HasHash h some
+one_has h [] has = absurd (cc has)
+one_has h (x ∷ some) has = elim (here_or_later (nat_eq h (hash_of x)) (list_any (nat_eq h) (map hash_of some)) has) [
+  | inl is ↦ (x, inl refl, sym (exact_unsigned_eq h (hash_of x) is))
+  | inr is ↦ (let c = one_has h some is in (c.0, inr c.1, c.2))
+]
+
+each_of : (P : List Choice → Type 0) (lists : List (List Choice)) → ((x : List Choice) → Member x lists → P x) → Each P lists
+each_of P [] h = tt
+each_of P (x ∷ lists) h = (h x (inl refl), each_of P lists (λ y member. h y (inr member)))
+
+each_at : (P : List Choice → Type 0) (lists : List (List Choice)) (x : List Choice) → Each P lists → Member x lists → P x
+each_at P [] x each member = absurd member
+each_at P (y ∷ lists) x each (inl same) = subst P (sym same) each.0
+each_at P (y ∷ lists) x each (inr member) = each_at P lists x each.1 member
+
+pub are_different : (d : Counted) (lists : List (List Choice)) (count : ℕ) → Tells d lists → IsCount d count → AreDifferent count lists
+are_different d lists count tells is =
+    let picked = pick d.hashes lists (λ h. (tells is.all h).0) in
     record {
       some = picked.some;
       counted = sym (length_map picked.some) ∙ ap length picked.by ∙ sym is.counted;
       once = once_by picked.some (subst (IsDistinct nat_eq) (sym picked.by) is.once);
       among = picked.among;
+      hashed = each_of (λ x. HasHash (hash_of x) picked.some) lists
+          (λ x member. one_has (hash_of x) picked.some (subst (λ (hashes : List ℕ). Has hashes (hash_of x)) (sym picked.by) ((tells is.all (hash_of x)).1 (x, member, refl))));
     }
+
+pub all_different_law : AllDifferentLaw
+all_different_law count lists told apart = each_of (λ x. Member x told.some) lists (λ x member.
+    let y = each_at (λ z. HasHash (hash_of z) told.some) lists x told.hashed member in
+    subst (λ (z : List Choice). Member z told.some) (apart y.0 x (each_at (λ z. Member z lists) told.some y.0 told.among y.1) member y.2) y.1)

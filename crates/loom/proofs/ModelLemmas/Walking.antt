@@ -1,6 +1,6 @@
 -- A walk under way, and the runs that it makes.
 use Rattle.std.proofs.Common.{◌≡◌, ◌≢◌, ◌≤◌, ◌<◌, ◌+◌, ◌-◌, ◌⊎◌, ℕ, zero, suc, inl, inr, Bool, true, false, List, [], ◌∷◌, length, refl, ap, ap₂, sym, ◌∙◌, subst, arith}
-use Rattle.std.specs.Prelude.{Some, None, Result, Ok, Err, IfOk, Vec}
+use Rattle.std.specs.Prelude.{Option, Some, None, Result, Ok, Err, IfOk, IfSome, Vec}
 use Rattle.std.specs.declared.alloc.Global.{Global}
 use Rattle.std.specs.declared.time.Duration.{Duration}
 use Rattle.loom_views.specs.declared.rt.failure.FailureKind.{FailureKind}
@@ -13,7 +13,7 @@ use Rattle.loom_engine.specs.Path.Drawn.{IsDrawn, led_by}
 use Rattle.loom_engine.specs.Path.Route.{Route, at_rest, chosen}
 use Rattle.loom_engine.specs.Runs.Sound.{IsRunTree}
 use Rattle.loom_engine.specs.Trees.Meeting.{Settings, whole_search}
-use Rattle.loom_engine.specs.Trees.Outcomes.{outcome}
+use Rattle.loom_engine.specs.Trees.Outcomes.{choices_made, outcome}
 use Rattle.loom_engine.specs.Trees.Replay.{before, replayed}
 use Rattle.loom_engine.specs.Trees.Sound.{IsSoundTree, NeverFails}
 use Rattle.loom_engine.specs.Walk.Choices.{among, pick}
@@ -26,9 +26,11 @@ use Rattle.loom.specs.declared.model.walk.Walk.{Walk}
 use Rattle.loom.specs.declared.model.walk.Walked.{Walked}
 use Rattle.loom.specs.declared.model.walk.Walked.TheVariants as walked
 use Rattle.loom.specs.Model.Check.{HasLasted}
+use Rattle.loom.specs.Model.Different.{Counted, IsCount, Notes, TellsDifferent, hash_of}
 use Rattle.loom.specs.Model.Fresh.{IsReplay}
 use Rattle.loom.specs.Model.Run.{IsLocated}
 use Rattle.loom.specs.Model.Walking.{EndsDrawn, HasFailed, HasGiven, IsDrawnRun, RunsDrawn, TakesRun, Walks, WalksNoEqualOrders, asked_runs, is_cut}
+use Rattle.loom.proofs.ModelLemmas.Noting.{Tells, are_different, tells_more, tells_none}
 use Rattle.loom.proofs.ModelLemmas.Replaying.{replays}
 
 module _ {D : Type 0} where
@@ -73,22 +75,24 @@ module _ {D : Type 0} where
   -- ---- runs one after another
 
   module _ {V : Type 0} (takes : V → List Choice → D → V → Type 0) (old : V) (b : Builder) (tree : Tree D) where
-    -- of so many runs so many were cut, and the visitor was given the others
-    pub record IsWalking (visitor : V) (number cut : ℕ) : Type 0 where
+    -- of so many runs so many were cut; the visitor was given the others, and their hashes were noted
+    pub record IsWalking (visitor : V) (d : Counted) (number cut : ℕ) : Type 0 where
       pub count : ℕ
       pub given : HasGiven takes old visitor b tree count
+      pub tells : Tells d (choices_made given.runs)
       pub adds : count + cut ≡ number
 
-    pub walking_start : IsWalking old 0 0
-    walking_start = record { count = 0; given = record { runs = []; given = refl; counted = refl; drawn = tt }; adds = refl }
+    pub walking_start : (d : Counted) → d.hashes ≡ [] → IsWalking old d 0 0
+    walking_start d none = record { count = 0; given = record { runs = []; given = refl; counted = refl; drawn = tt }; tells = tells_none d none; adds = refl }
 
-    module _ (visitor : V) (number cut : ℕ) (z : IsWalking visitor number cut) where
+    module _ (visitor : V) (d : Counted) (number cut : ℕ) (z : IsWalking visitor d number cut) where
       pub few_cut : cut ≤ number
       few_cut = omega (arith, z.adds)
 
       -- the visitor is given one more
-      walking_on : (value : D) (choices : List Choice) (later : V) → IsDrawnRun b.max_branches tree choices (Ok value) → takes visitor choices value later → IsWalking later (number + 1) cut
-      walking_on value choices later drawn took = record {
+      walking_on : (value : D) (choices : List Choice) (later : V) (noted : Counted) → IsDrawnRun b.max_branches tree choices (Ok value) → takes visitor choices value later → Notes (hash_of choices) d noted
+          → IsWalking later noted (number + 1) cut
+      walking_on value choices later noted drawn took notes = record {
         count = z.count + 1;
         given = record {
           runs = (choices, value) ∷ z.given.runs;
@@ -96,25 +100,28 @@ module _ {D : Type 0} where
           counted = omega (arith, z.given.counted);
           drawn = (drawn, z.given.drawn);
         };
+        tells = tells_more d noted choices (choices_made z.given.runs) z.tells notes;
         adds = omega (arith, z.adds);
       }
 
       -- one more is cut
-      walking_cut : IsWalking visitor (number + 1) (cut + 1)
-      walking_cut = record { count = z.count; given = z.given; adds = omega (arith, z.adds) }
+      walking_cut : IsWalking visitor d (number + 1) (cut + 1)
+      walking_cut = record { count = z.count; given = z.given; tells = z.tells; adds = omega (arith, z.adds) }
 
       -- a run was taken
-      pub taken_on : (later : V) (choices : List Choice) (ending : Ending D) (is : ℕ) → EndsDrawn b.max_branches tree choices ending → TakesRun takes visitor later choices ending cut is On → IsWalking later (number + 1) is
-      taken_on later choices (Ended value) is drawn took = subst (λ (n : ℕ). IsWalking later (number + 1) n) (sym took.1) (walking_on value choices later drawn took.0)
-      taken_on later choices (Failed failure) is drawn took =
-          subst (λ (n : ℕ). IsWalking later (number + 1) n) (sym took.1) (subst (λ (v : V). IsWalking v (number + 1) (cut + 1)) (sym took.0) walking_cut)
+      pub taken_on : (later : V) (noted : Counted) (choices : List Choice) (ending : Ending D) (is : ℕ) → EndsDrawn b.max_branches tree choices ending
+          → TakesRun takes visitor later d noted choices ending cut is On → IsWalking later noted (number + 1) is
+      taken_on later noted choices (Ended value) is drawn took = subst (λ (n : ℕ). IsWalking later noted (number + 1) n) (sym took.2) (walking_on value choices later noted drawn took.0 took.1)
+      taken_on later noted choices (Failed failure) is drawn took =
+          subst (λ (n : ℕ). IsWalking later noted (number + 1) n) (sym took.2) (subst (λ (c : Counted). IsWalking later c (number + 1) (cut + 1)) (sym took.1)
+          (subst (λ (v : V). IsWalking v d (number + 1) (cut + 1)) (sym took.0) walking_cut))
 
       -- or it failed
-      pub taken_failed : (later : V) (choices : List Choice) (ending : Ending D) (is : ℕ) (kind : FailureKind) (failing : Vec Choice Global) → EndsDrawn b.max_branches tree choices ending
-          → TakesRun takes visitor later choices ending cut is (Told kind failing) → (walk : Walk) (answered : Duration → Type 0) (count : ℕ) (failure : Failure) → count ≡ number - cut → number < asked_runs walk
+      pub taken_failed : (later : V) (noted : Counted) (choices : List Choice) (ending : Ending D) (is : ℕ) (kind : FailureKind) (failing : Vec Choice Global) → EndsDrawn b.max_branches tree choices ending
+          → TakesRun takes visitor later d noted choices ending cut is (Told kind failing) → (walk : Walk) (answered : Duration → Type 0) (count : ℕ) (failure : Failure) → count ≡ number - cut → number < asked_runs walk
           → failure.kind ≡ kind → (b.location ≡ false → failure.location ≡ None) → Walks takes old later b tree walk answered (walked.Failed count is failure failing)
-      taken_failed later choices (Ended value) is kind failing drawn took walk answered count failure e more same placed = absurd took
-      taken_failed later choices (Failed found) is kind failing drawn took walk answered count failure e more same placed =
+      taken_failed later noted choices (Ended value) is kind failing drawn took walk answered count failure e more same placed = absurd took
+      taken_failed later noted choices (Failed found) is kind failing drawn took walk answered count failure e more same placed =
           let left : z.count ≡ count = omega (arith, z.adds, e) in
           let kinds : found.kind ≡ failure.kind = sym (same ∙ took.2) in (
             subst (λ (v : V). HasGiven takes old v b tree count) (sym took.0) (subst (λ (n : ℕ). HasGiven takes old visitor b tree n) left z.given),
@@ -127,15 +134,24 @@ module _ {D : Type 0} where
             },
           )
 
-      pub given_so : (count : ℕ) → count ≡ number - cut → HasGiven takes old visitor b tree count
-      given_so count e = let same : z.count ≡ count = omega (arith, z.adds, e) in subst (λ (n : ℕ). HasGiven takes old visitor b tree n) same z.given
+      -- these were the others, so many
+      abbrev given_so : (count : ℕ) → count ≡ number - cut → HasGiven takes old visitor b tree count
+      given_so count e =
+          let same : z.count ≡ count = omega (arith, z.adds, e) in
+          record { runs = z.given.runs; given = z.given.given; counted = z.given.counted ∙ same; drawn = z.given.drawn }
 
-      pub walked_all : (walk : Walk) (answered : Duration → Type 0) (count : ℕ) → count ≡ number - cut → number ≡ asked_runs walk → Walks takes old visitor b tree walk answered (walked.Made count cut)
-      walked_all walk answered count e all = (given_so count e, inl (omega (arith, z.adds, e, all)))
+      -- and so many of them differ
+      told_so : (told : Option ℕ) → IfSome told (IsCount d) → TellsDifferent told (choices_made z.given.runs)
+      told_so None is = tt
+      told_so (Some count) is = are_different d (choices_made z.given.runs) count z.tells is
 
-      pub walked_up : (walk : Walk) (answered : Duration → Type 0) (count : ℕ) → count ≡ number - cut → number < asked_runs walk → HasLasted answered b.max_duration
-          → Walks takes old visitor b tree walk answered (walked.Made count cut)
-      walked_up walk answered count e more lasted = (given_so count e, inr (omega (arith, z.adds, e, more), lasted))
+      pub walked_all : (walk : Walk) (answered : Duration → Type 0) (count : ℕ) (told : Option ℕ) → count ≡ number - cut → number ≡ asked_runs walk → IfSome told (IsCount d)
+          → Walks takes old visitor b tree walk answered (walked.Made count cut told)
+      walked_all walk answered count told e all is = (given_so count e, told_so told is, inl (omega (arith, z.adds, e, all)))
+
+      pub walked_up : (walk : Walk) (answered : Duration → Type 0) (count : ℕ) (told : Option ℕ) → count ≡ number - cut → number < asked_runs walk → IfSome told (IsCount d) → HasLasted answered b.max_duration
+          → Walks takes old visitor b tree walk answered (walked.Made count cut told)
+      walked_up walk answered count told e more is lasted = (given_so count e, told_so told is, inr (omega (arith, z.adds, e, more), lasted))
 
 pub at_rest_drawn : (max_branches : ℕ) (old new : Route) → new ≡ at_rest old.search old.explores [] → old.search ≡ whole_search max_branches → IsDrawn new
 at_rest_drawn max_branches old new is same = subst IsDrawn (sym is) (refl, refl, ap (λ (s : Settings). s.reduce) same)
@@ -143,6 +159,6 @@ at_rest_drawn max_branches old new is same = subst IsDrawn (sym is) (refl, refl,
 -- no run of a walk fails because two orders are equal
 module _ {D V : Type 0} (tree : Tree D) (sound : IsSoundTree tree) (never : NeverFails OrdersEqual tree) (takes : V → List Choice → D → V → Type 0) (old new : V) (b : Builder) (walk : Walk) (answered : Duration → Type 0) where
   pub walks_unequal : (report : Walked) → Walks takes old new b tree walk answered report → WalksNoEqualOrders report
-  walks_unequal (walked.Made runs cut) w = tt
+  walks_unequal (walked.Made runs cut different) w = tt
   walks_unequal (walked.Failed runs cut failure choices) w = λ is.
       (no_such_failure_law OrdersEqual b.max_branches tree (λ e. cc) (λ e. cc) sound never).leads choices.items (subst (λ (k : FailureKind). outcome b.max_branches tree choices.items ≡ Some (Err k)) is w.2.fails.leads)

@@ -42,6 +42,7 @@ defaults = record {
   max_steps = 1000000;
   max_permutations = None;
   max_duration = None;
+  max_different = None;
   reduce = true;
   preemption_bound = None;
   checkpoint_file = None;

@@ -8,7 +8,7 @@ use Rattle.loom_objects.specs.declared.failure.Failure.{Failure}
 use Rattle.loom_objects.specs.Tree.Tree.{Tree}
 use Rattle.loom_engine.specs.Path.Drawn.{led_by}
 use Rattle.loom_engine.specs.Path.Route.{Route, chosen}
-use Rattle.loom_engine.specs.Trees.Outcomes.{outcome}
+use Rattle.loom_engine.specs.Trees.Outcomes.{choices_made, outcome}
 use Rattle.loom_engine.specs.Trees.Replay.{replayed}
 use Rattle.loom.specs.declared.model.builder.Builder.{Builder}
 use Rattle.loom.specs.declared.model.run.Ending.{Ending}
@@ -20,6 +20,7 @@ use Rattle.loom.specs.declared.model.walk.Walk.TheVariants.{Random, Priorities}
 use Rattle.loom.specs.declared.model.walk.Walked.{Walked}
 use Rattle.loom.specs.declared.model.walk.Walked.TheVariants.{Made, Failed}
 use Rattle.loom.specs.Model.Check.{HasLasted}
+use Rattle.loom.specs.Model.Different.{Counted, Notes, TellsDifferent, hash_of}
 use Rattle.loom.specs.Model.Parts.{GivenBack}
 use Rattle.loom.specs.Model.Run.{RunsAlong}
 use Rattle.loom.specs.Model.Turns.{EndsWith}
@@ -60,12 +61,13 @@ module _ {D : Type 0} (max_branches : ℕ) (tree : Tree D) where
   AreDrawnRuns [] = Unit {0}
   AreDrawnRuns (made ∷ runs) = IsDrawnRun made.0 (Ok made.1) × AreDrawnRuns runs
 
--- What becomes of a run by these choices that ended so: the visitor is given it, or it is one more that was cut, or its failure is told.
-abbrev pub TakesRun : {V D : Type 0} → (V → List Choice → D → V → Type 0) → V → V → List Choice → Ending D → ℕ → ℕ → Taken → Type 0
-TakesRun takes old new x (Ended value) was cut On = takes old x value new × (cut ≡ was)
-TakesRun takes old new x (Ended value) was cut (Told kind choices) = ⊥
-TakesRun takes old new x (Fails failure) was cut On = (new ≡ old) × (cut ≡ was + 1)
-TakesRun takes old new x (Fails failure) was cut (Told kind choices) =
+-- What becomes of a run by these choices that ended so: the visitor is given it, and its hash is noted; or it is one more that was cut, or its
+-- failure is told.
+abbrev pub TakesRun : {V D : Type 0} → (V → List Choice → D → V → Type 0) → V → V → Counted → Counted → List Choice → Ending D → ℕ → ℕ → Taken → Type 0
+TakesRun takes old new d noted x (Ended value) was cut On = takes old x value new × Notes (hash_of x) d noted × (cut ≡ was)
+TakesRun takes old new d noted x (Ended value) was cut (Told kind choices) = ⊥
+TakesRun takes old new d noted x (Fails failure) was cut On = (new ≡ old) × (noted ≡ d) × (cut ≡ was + 1)
+TakesRun takes old new d noted x (Fails failure) was cut (Told kind choices) =
     (new ≡ old) × (cut ≡ was) × (kind ≡ failure.kind) × (is_cut failure.kind ≡ false) × (choices.items ≡ x)
 
 module _ {V D : Type 0} (takes : V → List Choice → D → V → Type 0) (old new : V) (b : Builder) (tree : Tree D) where
@@ -84,10 +86,11 @@ module _ {V D : Type 0} (takes : V → List Choice → D → V → Type 0) (old 
 
   -- What a walk reports. It makes as many runs as it was asked for, unless one fails or its time is up.
   abbrev pub Walks : Walk → (Duration → Type 0) → Walked → Type 0
-  Walks walk answered (Made runs cut) = HasGiven runs × ((runs + cut ≡ asked_runs walk) ⊎ ((runs + cut < asked_runs walk) × HasLasted answered b.max_duration))
+  Walks walk answered (Made runs cut different) = (made : HasGiven runs) × TellsDifferent different (choices_made made.runs)
+      × ((runs + cut ≡ asked_runs walk) ⊎ ((runs + cut < asked_runs walk) × HasLasted answered b.max_duration))
   Walks walk answered (Failed runs cut failure choices) = HasGiven runs × (runs + cut < asked_runs walk) × HasFailed failure choices.items
 
 -- no run failed because the orders of two stores are equal
 abbrev pub WalksNoEqualOrders : Walked → Type 0
-WalksNoEqualOrders (Made runs cut) = Unit {0}
+WalksNoEqualOrders (Made runs cut different) = Unit {0}
 WalksNoEqualOrders (Failed runs cut failure choices) = failure.kind ≢ OrdersEqual

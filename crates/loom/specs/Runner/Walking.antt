@@ -1,6 +1,6 @@
 -- What a walk of a closure promises. What one run is says `loom/specs/Runner/Made.antt`. Each run that a walk makes is the one by its own
 -- choices: it begins with the path that follows them, as a replay of them does.
-use Rattle.std.specs.Prelude.{ℕ, suc, ◌≡◌, ◌<◌, ◌+◌, ◌⊎◌, true, false, List, [], None, Some, Result, Ok, Err, Vec}
+use Rattle.std.specs.Prelude.{ℕ, suc, ◌≡◌, ◌<◌, ◌+◌, ◌⊎◌, true, false, List, [], ◌∷◌, length, None, Some, Result, Ok, Err, Vec}
 use Rattle.std.specs.declared.alloc.Global.{Global}
 use Rattle.std.specs.declared.time.Duration.{Duration}
 use Rattle.loom_objects.specs.declared.choice.Choice.{Choice}
@@ -15,6 +15,7 @@ use Rattle.loom.specs.declared.model.walk.Walk.{Walk}
 use Rattle.loom.specs.declared.model.walk.Walked.{Walked}
 use Rattle.loom.specs.declared.model.walk.Walked.TheVariants as walked
 use Rattle.loom.specs.Model.Check.{HasLasted}
+use Rattle.loom.specs.Model.Different.{TellsDifferent, hash_of}
 use Rattle.loom.specs.Model.Settings.{tested}
 use Rattle.loom.specs.Model.Walking.{asked_runs, is_cut}
 use Rattle.loom.specs.declared.runner.drawn.DrawnEnd.{DrawnEnd}
@@ -42,7 +43,7 @@ pub record WasCut {D : Type 0} (log : Log D) : Type 0 where
 
 module _ {D V : Type 0} (takes : V → List Choice → D → V → Type 0) (limits : Limits) where
   abbrev pub EndsSo : V → Route → Log D → List (Share D) → DrawnEnd → V → Type 0
-  EndsSo v began log told Ended v' = Checked limits began log told × Gave takes v log v'
+  EndsSo v began log told (Ended hash) v' = Checked limits began log told × Gave takes v log v' × (hash ≡ hash_of (chosen log.now.route))
   EndsSo v began log told Cut v' = Checked limits began log told × WasCut log × (v' ≡ v)
   EndsSo v began log told (Failed failure choices) v' = Checked limits began log told × HasFailed log failure choices.items × (is_cut failure.kind ≡ false) × (v' ≡ v)
 
@@ -83,7 +84,7 @@ module _ {D F : Type 0} (called : F → Teller D → Result D Stop → F → Tel
 module _ {D F V : Type 0} (called : F → Teller D → Result D Stop → F → Teller D → Type 0) (takes : V → List Choice → D → V → Type 0) (limits : Limits) where
   -- How a run ended that a call of the closure has made from this path on, whose choices were drawn.
   abbrev pub WasDrawn : F → V → Route → DrawnEnd → F → V → Type 0
-  WasDrawn f v path Ended f' v' = (m : Made D) × IsByItsChoices path m × Given called takes limits f v m f' v'
+  WasDrawn f v path (Ended hash) f' v' = (m : Made D) × IsByItsChoices path m × (hash ≡ hash_of (chosen m.log.now.route)) × Given called takes limits f v m f' v'
   WasDrawn f v path Cut f' v' = (m : Made D) × IsByItsChoices path m × MadeBy called takes limits f m f' × WasCut m.log × (v' ≡ v)
   WasDrawn f v path (Failed failure choices) f' v' =
       (m : Made D) × IsByItsChoices path m × MadeBy called takes limits f m f' × HasFailed m.log failure choices.items × (is_cut failure.kind ≡ false) × (v' ≡ v)
@@ -106,40 +107,46 @@ module _ {D F V : Type 0} (called : F → Teller D → Result D Stop → F → T
 
 -- ---- a walk
 
--- Runs of a walk, one after another: the visitor was given so many, and so many were cut by their length.
-pub data Went {D F V : Type 0} (called : F → Teller D → Result D Stop → F → Teller D → Type 0) (takes : V → List Choice → D → V → Type 0) (b : Builder) (f : F) (v : V) : ℕ → ℕ → F → V → Type 0 where
-  begins : Went called takes b f v 0 0 f v
-  gives : (runs cut : ℕ) (g f' : F) (w v' : V) (m : Made D) → Went called takes b f v runs cut g w → m.began ≡ following b (chosen m.log.now.route) → Given called takes (limits_of b) g w m f' v'
-      → Went called takes b f v (suc runs) cut f' v'
-  cuts : (runs cut : ℕ) (g f' : F) (w : V) (m : Made D) → Went called takes b f v runs cut g w → m.began ≡ following b (chosen m.log.now.route) → MadeBy called takes (limits_of b) g m f' → WasCut m.log
-      → Went called takes b f v runs (suc cut) f' w
+-- Runs of a walk, one after another: the visitor was given those with these choices, the newest of which stands first, and so many were cut by
+-- their length.
+pub data Went {D F V : Type 0} (called : F → Teller D → Result D Stop → F → Teller D → Type 0) (takes : V → List Choice → D → V → Type 0) (b : Builder) (f : F) (v : V) : List (List Choice) → ℕ → F → V → Type 0 where
+  begins : Went called takes b f v [] 0 f v
+  gives : (lists : List (List Choice)) (cut : ℕ) (g f' : F) (w v' : V) (m : Made D) → Went called takes b f v lists cut g w → m.began ≡ following b (chosen m.log.now.route)
+      → Given called takes (limits_of b) g w m f' v' → Went called takes b f v (chosen m.log.now.route ∷ lists) cut f' v'
+  cuts : (lists : List (List Choice)) (cut : ℕ) (g f' : F) (w : V) (m : Made D) → Went called takes b f v lists cut g w → m.began ≡ following b (chosen m.log.now.route)
+      → MadeBy called takes (limits_of b) g m f' → WasCut m.log → Went called takes b f v lists (suc cut) f' w
 
 module _ {D F V : Type 0} (called : F → Teller D → Result D Stop → F → Teller D → Type 0) (takes : V → List Choice → D → V → Type 0) (b : Builder) where
   -- these are the runs of a walk
   pub record HasGone (f : F) (v v' : V) (runs cut : ℕ) : Type 0 where
+    pub lists : List (List Choice)
+    pub counted : length lists ≡ runs
     pub after : F
-    pub went : Went called takes b f v runs cut after v'
+    pub went : Went called takes b f v lists cut after v'
 
   -- Behind them one failed, and wasn't given: a replay by its choices, which wasn't cut by its length.
   pub record Fails (f : F) (v v' : V) (runs cut : ℕ) (failure : Failure) (choices : Vec Choice Global) : Type 0 where
+    pub lists : List (List Choice)
+    pub counted : length lists ≡ runs
     pub before : F
-    pub went : Went called takes b f v runs cut before v'
+    pub went : Went called takes b f v lists cut before v'
     pub replays : Replays called b choices.items before (replay.Failed failure choices)
     pub uncut : is_cut failure.kind ≡ false
 
   -- What a walk reports. It makes as many runs as it was asked for, unless one fails or its time is up.
   abbrev pub Walks : F → V → V → Walk → (Duration → Type 0) → Walked → Type 0
-  Walks f v v' walk answered (walked.Made runs cut) = HasGone f v v' runs cut × ((runs + cut ≡ asked_runs walk) ⊎ ((runs + cut < asked_runs walk) × HasLasted answered b.max_duration))
+  Walks f v v' walk answered (walked.Made runs cut different) = (gone : HasGone f v v' runs cut) × TellsDifferent different gone.lists
+      × ((runs + cut ≡ asked_runs walk) ⊎ ((runs + cut < asked_runs walk) × HasLasted answered b.max_duration))
   Walks f v v' walk answered (walked.Failed runs cut failure choices) = Fails f v v' runs cut failure choices × (runs + cut < asked_runs walk)
 
   -- The visitor was given these runs. Then the next one, one of as many as were asked for, gave no end.
   pub record BreaksOff (walk : Walk) (f : F) (v v' : V) (e : RunnerError) : Type 0 where
-    pub runs : ℕ
+    pub lists : List (List Choice)
     pub cut : ℕ
-    pub few : runs + cut < asked_runs walk
+    pub few : length lists + cut < asked_runs walk
     pub before : F
     pub visitor : V
-    pub went : Went called takes b f v runs cut before visitor
+    pub went : Went called takes b f v lists cut before visitor
     pub why : IsNoDrawnRun called takes (limits_of b) before visitor (following b []) e v'
 
   -- a setting is out of range, and no run was made; or the settings are in range, and the walk broke off

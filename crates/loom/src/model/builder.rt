@@ -23,6 +23,8 @@ pub struct Builder {
     pub max_permutations: Option<usize>,
     /// From what time on a check makes no further run, if that is limited. The clock tells the time.
     pub max_duration: Option<Duration>,
+    /// How many different runs a walk tells apart, where it is to count them (own). It keeps a number of 64 bits of each.
+    pub max_different: Option<usize>,
     /// Whether another thread is tried at a schedule only where an access of the run calls for it, and not each that can go
     /// on (own: loom's search is always reduced).
     pub reduce: bool,
@@ -64,6 +66,7 @@ impl Builder {
             max_steps: 1_000_000,
             max_permutations: None,
             max_duration: None,
+            max_different: None,
             reduce: true,
             preemption_bound: None,
             checkpoint_file: None,

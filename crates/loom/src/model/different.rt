@@ -1,22 +1,25 @@
-//! How many different runs a visitor was given (own).
-ghost use Rattle.std.specs.Prelude.{◌≡◌, IfSome, OnOk};
-ghost use Rattle.loom.specs.Model.Different.{DifferentLaw, IsCount, Notes, begins_with, code_of, hash_of, step};
+//! How many of a walk's runs differ, by hashes of their choices (own).
+ghost use Rattle.std.specs.Prelude.{◌≡◌, [], IfSome};
+ghost use Rattle.loom_engine.specs.Path.Route.{chosen};
+ghost use Rattle.loom.specs.Model.Different.{AllDifferentLaw, IsCount, Notes, code_of, hash_of, step};
 
-use crate::model::visitor::Visitor;
+use loom_engine::rt::path::Path;
 use loom_objects::choice::Choice;
-use std::alloc::{AllocError, Global};
+use std::alloc::Global;
 use std::collections::HashSet;
 use std::marker::Model;
 
-/// So many different runs are told apart at most.
+/// So many different runs of a walk the programs tell apart at most (own).
 pub const MOST_DIFFERENT: usize = 1_000_000;
 
-/// A visitor that counts the different runs that it is given, as by a walk, by hashes of their choices (own).
+/// The hashes of the runs that came, as long as their number is to be told.
 #[derive(Drop)]
-pub struct Different {
+pub(crate) struct Different {
     hashes: HashSet<u64>,
-    // whether there were more than are told apart
-    is_full: bool,
+    // so many are told apart at most
+    most: usize,
+    // whether no number is told: it isn't asked for, there were more, or memory for them was refused
+    is_left_out: bool,
 }
 
 impl Model for Different {
@@ -24,52 +27,61 @@ impl Model for Different {
 
     ghost Value = { Counted };
 
-    ghost view = { λ d. record { hashes = d.hashes.keys; is_full = d.is_full } };
+    ghost view = { λ d. record { hashes = d.hashes.keys; is_left_out = d.is_left_out } };
 }
 
 impl Different {
-    /// Before any run (own).
-    pub fn new(alloc: Global) -> Different
-        ensures { result ≡ begins_with }
+    /// Before any run. So many are told apart at most, if their number is asked for.
+    pub(crate) fn new(alloc: Global, most: Option<usize>) -> Different
+        ensures { result.hashes ≡ [] }
     {
         Different {
             hashes: HashSet::new(alloc),
-            is_full: false,
+            most: most.unwrap_or(0),
+            is_left_out: most.is_none(),
         }
     }
 
-    /// How many different runs there were: so many at least, since two with one hash count once. None where there were more than are
-    /// told apart (own).
-    pub fn count(&self) -> Option<u64>
+    /// The run along this path came. Its choices are listed as long as a number is to be told.
+    pub(crate) fn note_run(&mut self, alloc: Global, path: &Path)
+        ensures { Notes (hash_of (chosen path.now)) self.old self.new }
+    {
+        if self.is_left_out {
+            return;
+        }
+        match path.choices(alloc) {
+            Ok(choices) => self.note(hash_of(choices.as_slice())),
+            Err(_) => self.is_left_out = true,
+        }
+    }
+
+    /// A run came whose choices have this hash. Where there are too many, or memory for it is refused, their number is left out.
+    pub(crate) fn note(&mut self, hash: u64)
+        ensures { Notes hash self.old self.new }
+    {
+        if self.hashes.len() >= self.most && !self.hashes.contains(&hash) {
+            self.is_left_out = true;
+            return;
+        }
+        match self.hashes.insert(hash) {
+            Ok(_) => {}
+            Err(_) => self.is_left_out = true,
+        }
+    }
+
+    /// How many runs differ, if that is told: so many at least, since two with one hash count once.
+    pub(crate) fn count(&self) -> Option<u64>
         ensures { IfSome result (IsCount self.now) }
     {
-        if self.is_full {
+        if self.is_left_out {
             return None;
         }
         Some(self.hashes.len() as u64)
     }
 }
 
-impl<D: Drop> Visitor<D> for Different {
-    ghost takes = { λ old choices value new. Notes (hash_of choices) old new };
-
-    fn run(&mut self, choices: &[Choice], value: D) -> Result<(), AllocError>
-        ensures { OnOk result (Notes (hash_of choices.now) self.old self.new) }
-    {
-        let hash = hash_of(choices);
-        if self.hashes.len() >= MOST_DIFFERENT && !self.hashes.contains(&hash) {
-            self.is_full = true;
-            return Ok(());
-        }
-        match self.hashes.insert(hash) {
-            Ok(_) => Ok(()),
-            Err(_) => Err(AllocError),
-        }
-    }
-}
-
 /// A hash of the choices.
-fn hash_of(choices: &[Choice]) -> u64
+pub(crate) fn hash_of(choices: &[Choice]) -> u64
     ensures { result ≡ hash_of choices.now }
 {
     let mut hash = 0u64;
@@ -102,7 +114,7 @@ fn code_of(choice: Choice) -> u64
     }
 }
 
-/// No more different runs are counted than there were.
-pub fn no_more_than_there_were<D>()
-    ensures { DifferentLaw D }
+/// Where no two runs that differ have the same hash, those that are counted are all that there are.
+pub fn all_are_counted()
+    ensures { AllDifferentLaw }
 {}

@@ -87,6 +87,7 @@ impl Builder {
             max_steps: self.max_steps,
             max_permutations: self.max_permutations,
             max_duration: self.max_duration,
+            max_different: self.max_different,
             reduce: self.reduce,
             preemption_bound: Some(bound),
             checkpoint_file: None,

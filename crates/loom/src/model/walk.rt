@@ -1,5 +1,5 @@
 //! Walks: so many runs of a body, whose choices are drawn, for where no search would end (own).
-ghost use Rattle.std.specs.Prelude.{◌≡◌, ◌≤◌, ◌<◌, ◌-◌, ◌^◌, ◌⊎◌, Err, IfOk, IfErr, IsTrue, None, false};
+ghost use Rattle.std.specs.Prelude.{◌≡◌, ◌≤◌, ◌<◌, ◌-◌, ◌^◌, ◌⊎◌, [], Err, IfOk, IfErr, IsTrue, None, false};
 ghost use Rattle.loom_engine.specs.Path.Route.{chosen, settings};
 ghost use Rattle.loom_engine.specs.Runs.Body.{runs as runs_of};
 ghost use Rattle.loom_engine.specs.Trees.Meeting.{whole_search};
@@ -9,6 +9,7 @@ ghost use Rattle.loom.specs.Model.Walking.{EndsDrawn, TakesRun, Walks, WalksNoEq
 
 use crate::model::builder::Builder;
 use crate::model::clock::Clock;
+use crate::model::different::Different;
 use crate::model::drawer::Drawer;
 use crate::model::error::CheckError;
 use crate::model::limits::log_runs;
@@ -40,13 +41,15 @@ pub enum Walk {
 }
 
 /// What a walk found. `runs` counts the runs that ended without a failure, and `cut` those that were cut by their length: they came to
-/// `max_branches` or `max_steps` (own).
+/// `max_branches` or `max_steps`. `different` says how many of `runs` differ in their choices: so many at least, since two with the same
+/// hash count once. It is left out where `max_different` doesn't ask for it, more differ than that, or memory is refused (own).
 #[derive(Debug, PartialEq, Eq, Drop)]
 pub enum Walked {
     /// None failed.
     Made {
         runs: u64,
         cut: u64,
+        different: Option<u64>,
     },
     /// After these a run failed, under these choices.
     Failed {
@@ -72,12 +75,20 @@ impl Walk {
 impl fmt::Display for Walked {
     fn fmt<W: fmt::Write>(&self, f: &mut fmt::Formatter<W>) -> fmt::Result {
         match self {
-            Walked::Made { runs, cut } => {
+            Walked::Made {
+                runs,
+                cut,
+                different,
+            } => {
                 let runs = RunCount(*runs);
                 write!(
                     f,
                     "walked: {runs}, none failed; {cut} were cut by their length"
-                )
+                )?;
+                match different {
+                    Some(count) => write!(f, "; at least {count} runs are different"),
+                    None => Ok(()),
+                }
             }
             Walked::Failed {
                 runs,
@@ -112,12 +123,14 @@ fn take_run<D: Drop, V: Visitor<D>>(
     ending: Ending<D>,
     visitor: &mut V,
     cut: &mut u64,
+    different: &mut Different,
 ) -> Result<Taken, AllocError>
     requires { cut.old < 2 ^ 64 - 1 }
-    ensures { IfOk result (TakesRun V.takes visitor.old visitor.new (chosen path.now) ending cut.old cut.new) }
+    ensures { IfOk result (TakesRun V.takes visitor.old visitor.new different.old different.new (chosen path.now) ending cut.old cut.new) }
 {
     match ending {
         Ending::Ended(value) => {
+            different.note_run(alloc, path);
             visitor.run_along(alloc, path, value)?;
             Ok(Taken::On)
         }
@@ -145,8 +158,9 @@ impl Builder {
     /// it. Nothing says that runs differ, and none is left out because it was made before.
     ///
     /// Where the run explores each choice is drawn, and elsewhere it is the default. `max_duration` is the walk's time, and the clock is
-    /// asked once before each run, where that is set. Of the other limits and of the search's settings nothing is used. The log hears
-    /// of a run's number before each whose number is a multiple of `checkpoint_interval`, and how many were made.
+    /// asked once before each run, where that is set. `max_different` asks how many runs differ. Of the other limits and of the search's
+    /// settings nothing is used. The log hears of a run's number before each whose number is a multiple of `checkpoint_interval`, and how
+    /// many were made.
     ///
     /// A setting out of range is refused before any run, the first one first. Besides, only `Memory` comes, where a growth was refused
     /// (own).
@@ -166,17 +180,28 @@ impl Builder {
     {
         self.test()?;
         let mut room = Room::new(alloc, self.limits())?;
-        let answer = self.make_walk(alloc, &mut room, body, walk, visitor, clock, log);
+        let mut different = Different::new(alloc, self.max_different);
+        let answer = self.make_walk(
+            alloc,
+            &mut room,
+            &mut different,
+            body,
+            walk,
+            visitor,
+            clock,
+            log,
+        );
         room.leave();
         let walked = answer?;
         Ok(walked)
     }
 
-    /// The runs of a walk, in this room. The settings were tested.
+    /// The runs of a walk, in this room. The settings were tested, and no run has come yet.
     fn make_walk<B: Body, V: Visitor<B::Data>, C: Clock, L: Log>(
         &self,
         alloc: Global,
         room: &mut Room<B>,
+        different: &mut Different,
         body: &B,
         walk: Walk,
         visitor: &mut V,
@@ -187,6 +212,7 @@ impl Builder {
         requires few { self.now.max_threads ≤ 5 }
         requires branches { self.now.max_branches ≤ 1000000 }
         requires interval { 0 < self.now.checkpoint_interval }
+        requires new { different.old.hashes ≡ [] }
         ensures { IfOk result (Walks V.takes visitor.old visitor.new self.now (runs_of B.next (explores self.now) self.now.max_threads self.now.max_steps body.now) walk (C.answered clock.new)) }
     {
         let mut drawer = Drawer::new(walk);
@@ -196,12 +222,17 @@ impl Builder {
         'walking: for number in 0..asked {
             let runs = number - cut;
             if self.is_up(clock) {
-                return Ok(Walked::Made { runs, cut });
+                let told = different.count();
+                return Ok(Walked::Made {
+                    runs,
+                    cut,
+                    different: told,
+                });
             }
             self.log_run(log, number);
             drawer.begin();
             let ending = self.draw(room, body, &mut path, &mut drawer)?;
-            match take_run(alloc, &path, ending, visitor, &mut cut)? {
+            match take_run(alloc, &path, ending, visitor, &mut cut, different)? {
                 Taken::On => {}
                 Taken::Failed(kind, choices) => {
                     return Ok(Walked::Failed {
@@ -217,6 +248,7 @@ impl Builder {
         Ok(Walked::Made {
             runs: asked - cut,
             cut,
+            different: different.count(),
         })
     }
 

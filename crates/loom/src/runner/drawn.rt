@@ -7,6 +7,7 @@ ghost use Rattle.loom.specs.Runner.Check.{limits_of};
 ghost use Rattle.loom.specs.Runner.Walking.{IsNoDrawnRun, IsNotJudgedDrawn, JudgedDrawn, WasDrawn};
 
 use crate::model::builder::Builder;
+use crate::model::different::hash_of;
 use crate::model::drawer::Drawer;
 use crate::model::visitor::Visitor;
 use crate::model::walk::is_cut;
@@ -32,8 +33,8 @@ use std::thread::Threads;
 /// How a run ended whose choices are drawn.
 #[derive(Drop)]
 pub(crate) enum DrawnEnd {
-    /// It came to main's result, and the visitor was given it.
-    Ended,
+    /// It came to main's result, and the visitor was given it. Its choices have this hash.
+    Ended(u64),
     /// It was cut by its length.
     Cut,
     /// It failed so, under these choices.
@@ -122,8 +123,9 @@ fn judge<D: Exact, V: Visitor<D>>(
     let Some(value) = value else {
         return Err(RunnerError::NotSettled);
     };
-    if visitor.run(choices.as_slice(), value).is_err() {
+    let list = choices.as_slice();
+    if visitor.run(list, value).is_err() {
         return Err(RunnerError::Memory);
     }
-    Ok(DrawnEnd::Ended)
+    Ok(DrawnEnd::Ended(hash_of(list)))
 }

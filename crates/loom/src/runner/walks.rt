@@ -1,5 +1,5 @@
 //! Walks: so many runs of a closure, whose choices are drawn, for where no search would end (own).
-ghost use Rattle.std.specs.Prelude.{◌≡◌, ◌≤◌, ◌<◌, IfOk, IfErr};
+ghost use Rattle.std.specs.Prelude.{◌≡◌, ◌≤◌, ◌<◌, [], IfOk, IfErr};
 ghost use Rattle.std.specs.Fn.{CalledAtMut};
 ghost use Rattle.loom.specs.Model.Settings.{tested};
 ghost use Rattle.loom.specs.declared.runner.error.RunnerError.TheVariants.{Settings};
@@ -7,6 +7,7 @@ ghost use Rattle.loom.specs.Runner.Walking.{BreaksOff, IsNoWalk, Walks};
 
 use crate::model::builder::Builder;
 use crate::model::clock::Clock;
+use crate::model::different::Different;
 use crate::model::drawer::Drawer;
 use crate::model::limits::log_runs;
 use crate::model::visitor::Visitor;
@@ -29,9 +30,9 @@ use std::thread::Threads;
 /// compared with another one. The choices of a failure make it again, by `replay`, where the closure does the same.
 ///
 /// Where the run explores each choice is drawn, and elsewhere it is the default. `max_duration` is the walk's time, and the clock is
-/// asked once before each run, where that is set. Of the other limits and of the search's settings nothing is used. The log hears of a
-/// run's number before each whose number is a multiple of `checkpoint_interval`, how many were made, and of a run what it hears in
-/// `check_with`, but not what happened in one that failed.
+/// asked once before each run, where that is set. `max_different` asks how many runs differ. Of the other limits and of the search's
+/// settings nothing is used. The log hears of a run's number before each whose number is a multiple of `checkpoint_interval`, how many
+/// were made, and of a run what it hears in `check_with`, but not what happened in one that failed.
 ///
 /// A setting out of range is refused before any run, as `Settings`. Besides, an error comes only where a growth or a thread was refused,
 /// as `Memory` and `Refused`, or where a run's end isn't settled, as `NotSettled`. Then the visitor was given just the runs that had ended
@@ -60,12 +61,14 @@ pub fn walk<
 {
     builder.test()?;
     let watcher = Watcher::start(rt, alloc, builder.log, log);
+    let mut different = Different::new(alloc, builder.max_different);
     let answer = make_walk(
         rt,
         alloc,
         builder,
         walk,
         &watcher,
+        &mut different,
         &mut closure,
         visitor,
         clock,
@@ -75,7 +78,7 @@ pub fn walk<
     answer
 }
 
-/// The runs of a walk, by settings in range. The watcher is shown each of them.
+/// The runs of a walk, by settings in range. The watcher is shown each of them, and no run has come yet.
 fn make_walk<
     D: Exact + 'static,
     R: Threads + Wait + Clone + Send + 'static,
@@ -89,6 +92,7 @@ fn make_walk<
     builder: &Builder,
     walk: Walk,
     watcher: &Watcher<D, L>,
+    different: &mut Different,
     closure: &mut F,
     visitor: &mut V,
     clock: &mut C,
@@ -98,6 +102,7 @@ fn make_walk<
     requires few { builder.now.max_threads ≤ 5 }
     requires branches { builder.now.max_branches ≤ 1000000 }
     requires interval { 0 < builder.now.checkpoint_interval }
+    requires new { different.old.hashes ≡ [] }
     requires callable { F.IsAlwaysCallable closure.old }
     ensures again { F.IsAlwaysCallable closure.new }
     ensures walks { IfOk result (Walks (CalledAtMut F.FnMut) V.takes builder.now closure.old visitor.old visitor.new walk (C.answered clock.new)) }
@@ -110,7 +115,12 @@ fn make_walk<
     'walking: for number in 0..asked {
         let runs = number - cut;
         if builder.is_up(clock) {
-            return Ok(Walked::Made { runs, cut });
+            let told = different.count();
+            return Ok(Walked::Made {
+                runs,
+                cut,
+                different: told,
+            });
         }
         builder.log_run(log, number);
         drawer.begin();
@@ -126,7 +136,7 @@ fn make_walk<
             visitor,
         )?;
         match end {
-            DrawnEnd::Ended => {}
+            DrawnEnd::Ended(hash) => different.note(hash),
             DrawnEnd::Cut => cut += 1,
             DrawnEnd::Failed(failure, choices) => {
                 return Ok(Walked::Failed {
@@ -139,6 +149,9 @@ fn make_walk<
         }
     }
     log_runs(log, "completed in ", asked, " iterations");
-    let runs = asked - cut;
-    Ok(Walked::Made { runs, cut })
+    Ok(Walked::Made {
+        runs: asked - cut,
+        cut,
+        different: different.count(),
+    })
 }

@@ -10,6 +10,7 @@ use crate::rows::walks::{SHORTENING_RUNS, failing_in, print_shortened, print_wal
 use crate::rows::words::{refuse, refuse_choices};
 use log::Log;
 use loom::model::builder::Builder;
+use loom::model::different::MOST_DIFFERENT;
 use loom::model::rising::Risen;
 use loom::model::{Replay, Report, Walk};
 use loom::runner::RunnerError;
@@ -106,6 +107,7 @@ pub fn run_asked<
     let builder = row.builder_with(rt.alloc(), builder, asked.file)?;
     let mut builder = asked.changes.change(builder);
     builder.recorded = asked.records;
+    builder.max_different = Some(MOST_DIFFERENT);
     if let Some(walk) = asked.walk {
         return walk_through(rt, log, row, &builder, walk, asked, out, err);
     }

@@ -9,6 +9,7 @@ use crate::rows::{Checked, Row, refuse_check};
 use crate::scripts::script::Script;
 use log::Log;
 use loom::model::builder::Builder;
+use loom::model::different::MOST_DIFFERENT;
 use loom::model::error::CheckError;
 use loom::model::{Shortened, Walk, Walked};
 use loom::runner::NoVisitor;
@@ -57,8 +58,15 @@ pub(crate) fn failing_in(walked: &Walked) -> Option<&[Choice]> {
 /// Prints the line of a walk, and answers the exit status.
 pub(crate) fn print_walked<O: Write>(walked: &Walked, out: &mut O) -> io::Result<u8> {
     match walked {
-        Walked::Made { runs, cut } => {
-            writeln!(out, "walked {runs} {cut}")?;
+        Walked::Made {
+            runs,
+            cut,
+            different,
+        } => {
+            match different {
+                Some(count) => writeln!(out, "walked {runs} {cut} different {count}")?,
+                None => writeln!(out, "walked {runs} {cut}")?,
+            }
             Ok(0)
         }
         Walked::Failed {
@@ -87,7 +95,8 @@ pub(crate) fn look_at_row<R: AllocGlobal + Clock + Files, L: Log, O: Write, E: W
     err: &mut E,
 ) -> io::Result<u8> {
     let settings = row.settings.builder_with(rt.alloc(), asked.file)?;
-    let builder = asked.changes.change(settings);
+    let mut builder = asked.changes.change(settings);
+    builder.max_different = Some(MOST_DIFFERENT);
     match row.checked {
         Checked::Script(steps) => {
             let script = Script::new(rt.alloc(), steps)?;

@@ -195,8 +195,8 @@ static SAID: [Said; 13] = [
         status: 1,
     },
     Said {
-        words: &["--walk", "1", "100", "store_buffering_closures"],
-        out: "walked 100 0\n",
+        words: &["--walk", "1", "1", "store_buffering_closures"],
+        out: "walked 1 0 different 1\n",
         err: "",
         status: 0,
     },

@@ -103,14 +103,14 @@ static CALLS: [Call; 22] = [
     ),
     // Runs that are drawn. What they can't decide stays open.
     (
-        &["--walk", "3", "5", "one.litmus"],
-        "Test one Allowed\nStates 1\n[x]=1;\nWalked: 5 runs, and 0 that were cut by their length\nThe states are those of these runs.\nOk\nWitnesses\nPositive: 5 Negative: 0\nThe counts are of runs that were drawn.\nCondition exists ([x]=1)\nObservation one Always 5 0\n",
+        &["--walk", "3", "1", "one.litmus"],
+        "Test one Allowed\nStates 1\n[x]=1;\nWalked: 1 runs, and 0 that were cut by their length\nDifferent: 1\nThe states are those of these runs.\nOk\nWitnesses\nPositive: 1 Negative: 0\nThe counts are of runs that were drawn.\nCondition exists ([x]=1)\nObservation one Always 1 0\n",
         "",
         0,
     ),
     (
         &["--walk", "3", "0", "--walk-depth", "2", "SB.litmus"],
-        "Test SB Allowed\nStates 0\nWalked: 0 runs, and 0 that were cut by their length\nThe states are those of these runs.\nUndecided\nWitnesses\nPositive: 0 Negative: 0\nThe counts are of runs that were drawn.\nCondition exists (0:r0=0 /\\ 1:r0=0)\nObservation SB Never 0 0\n",
+        "Test SB Allowed\nStates 0\nWalked: 0 runs, and 0 that were cut by their length\nDifferent: 0\nThe states are those of these runs.\nUndecided\nWitnesses\nPositive: 0 Negative: 0\nThe counts are of runs that were drawn.\nCondition exists (0:r0=0 /\\ 1:r0=0)\nObservation SB Never 0 0\n",
         "",
         1,
     ),

@@ -29,7 +29,7 @@ reached_by (Failed runs failure choices) = far.Failure
 
 -- after a walk there may be more runs
 abbrev pub walked_to : Walked → Reached
-walked_to (walked.Made runs cut) = far.Part
+walked_to (walked.Made runs cut different) = far.Part
 walked_to (walked.Failed runs cut failure choices) = far.Failure
 
 -- what is covered stands for all runs

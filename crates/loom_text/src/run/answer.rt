@@ -87,11 +87,18 @@ impl fmt::Display for Sight<'_> {
     fn fmt<W: fmt::Write>(&self, f: &mut fmt::Formatter<W>) -> fmt::Result {
         write_states(f, self.test, self.layout, &self.seen.counts)?;
         match &self.seen.walked {
-            Walked::Made { runs, cut } => {
+            Walked::Made {
+                runs,
+                cut,
+                different,
+            } => {
                 writeln!(
                     f,
                     "Walked: {runs} runs, and {cut} that were cut by their length"
                 )?;
+                if let Some(count) = different {
+                    writeln!(f, "Different: {count}")?;
+                }
                 writeln!(f, "The states are those of these runs.")?;
             }
             Walked::Failed {

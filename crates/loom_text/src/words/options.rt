@@ -4,6 +4,7 @@ use clap::{Arg, ArgAction, ArgMatches, Command, Error, value_parser};
 use loom::model::Walk;
 use loom::model::builder::Builder;
 use loom::model::cover::MOST_STATES;
+use loom::model::different::MOST_DIFFERENT;
 use std::alloc::{AllocError, Global};
 use std::time::Duration;
 
@@ -282,6 +283,7 @@ fn builder(matches: &ArgMatches) -> Builder {
         max_steps: max_steps.unwrap_or(MAX_STEPS),
         max_permutations: matches.get_one("max-permutations"),
         max_duration: matches.get_one("max-duration").map(Duration::from_secs),
+        max_different: Some(MOST_DIFFERENT),
         reduce: matches.get_flag("reduce"),
         preemption_bound: matches.get_one("preemption-bound"),
         location: true,

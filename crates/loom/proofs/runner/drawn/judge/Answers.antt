@@ -1,7 +1,8 @@
-use Rattle.std.proofs.Common.{◌∙◌, sym, subst, List, inl, inr, refl, rules}
+use Rattle.std.proofs.Common.{◌∙◌, ap, sym, subst, List, inl, inr, refl, rules}
 use Rattle.loom_engine.specs.Path.Drawn.{led_by}
 use Rattle.loom_engine.specs.Path.Route.{chosen}
 use Rattle.loom_objects.specs.declared.choice.Choice.{Choice}
+use Rattle.loom.specs.Model.Different.{hash_of}
 use Rattle.loom.specs.Runner.Drawn.{led_log}
 use Rattle.loom.specs.Runner.Run.{Checked}
 use Rattle.loom.proofs.Closures.Refusing.{is_open}
@@ -14,10 +15,11 @@ returns-clause-judged g c =
     let log = c.args.turns.now in
     let settled = checked_drawn c.args.limits c.args.path.now log c.args.told.now (c.if-not-settle_drawn.ensures.0 (search rules)) (c.spoiled.ensures.leads (sym c.spoiled.ensures.spoiled ∙ c.in_default.is)) in
     let ran =
-    ok_gives c.run.result (g.V.Visitor.takes c.args.visitor.now c.as_slice.result.now c.in-Some-value.value c.run.new.self) c.run.ensures (sym c.if-is_err.ensures.value) in
+    ok_gives c.run.result (g.V.Visitor.takes c.args.visitor.now c.as_slice-list.result.now c.in-Some-value.value c.run.new.self) c.run.ensures (sym c.if-is_err.ensures.value) in
+    let own = c.as_slice-list.ensures.value ∙ c.in-Ok.ensures in
     let taken =
-    subst (λ (l : List Choice). g.V.Visitor.takes c.args.visitor.now l c.in-Some-value.value c.run.new.self) (c.as_slice.ensures.value ∙ c.in-Ok.ensures) ran in
-    (settled, record { value = c.in-Some-value.value; ended = sym c.in-Ok-value.ensures ∙ c.in-Some-value.is; taken = taken })
+    subst (λ (l : List Choice). g.V.Visitor.takes c.args.visitor.now l c.in-Some-value.value c.run.new.self) own ran in
+    (settled, record { value = c.in-Some-value.value; ended = sym c.in-Ok-value.ensures ∙ c.in-Some-value.is; taken = taken }, c.hash_of.ensures ∙ ap hash_of own)
 
 pub returns-in-Some-clause-errors : goal.returns-in-Some-clause-errors
 returns-in-Some-clause-errors g c =
