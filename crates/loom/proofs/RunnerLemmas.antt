@@ -9,7 +9,9 @@ pub mod Made
 pub mod Once
 pub mod Paths
 pub mod Playing
+pub mod Real
 pub mod Recorded
+pub mod RecordedCover
 pub mod Remembering
 pub mod Rounds
 pub mod Tried

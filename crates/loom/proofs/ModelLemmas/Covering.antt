@@ -40,7 +40,7 @@ use Rattle.loom_engine.specs.Covering.Kept.{Noted, NotesAs, state_in}
 use Rattle.loom_engine.specs.Covering.UnderWay as under
 use Rattle.loom_engine.proofs.Covering.UnderWay as way
 use Rattle.loom.proofs.ModelLemmas.Handing.{IsHanded, slice_get_is}
-use Rattle.loom.specs.Model.Cover.{AreNoted, ComesTo, EndsWith, IsAtBranch, IsEndBy, IsEndOf, IsHanding, IsTabled, IsUnderWay, Leaves, LooksUpRun, Meets, Noting, StaysOpen}
+use Rattle.loom.specs.Model.Cover.{AreNoted, ComesTo, EndsWith, IsAtBranch, IsEndBy, IsEndOf, IsHanding, IsTabled, IsUnderWay, Leaves, LooksUpRun, Meets, Noting, Passes, StaysOpen}
 use Rattle.loom.specs.declared.model.cover.run.Ending.{Ending}
 use Rattle.loom.specs.declared.model.cover.run.Found.TheVariants.{Known, New}
 use Rattle.loom.specs.declared.model.cover.run.Halt.{Halt}
@@ -218,6 +218,15 @@ module _ {D S : Type 0} (next : Meaning D S) (run : Noting D S) where
       → Meets next run number path more
   met_there bodies old path noted more number looked h = subst (λ (l : Noted D S). Meets next run number path l) (sym looked.looks.3) (met bodies old path noted h looked.looks.0 looked.looks.1 number looked.views looked.order looked.looks.2)
 
+  -- what comes of a branch point
+  pub passes_so : (bodies : List S) (old new : ExecutionState D) (path after : Route) (noted more : Noted D S) → old.over ≡ None → after.search ≡ path.search → IsAtBranch next run bodies old.run path noted
+      → (result : Result (Turn D) Halt) → Passes bodies old path noted result new after more → new.run.state.steps_left ≡ old.run.state.steps_left → ComesTo next run result bodies new.run after more
+  passes_so bodies old new path after noted more going same h (Ok turn) p steps = scheduled_turns bodies old new path after noted more going same h turn p.1 p.0 steps
+  passes_so bodies old new path after noted more going same h (Err (halt.Met number)) p steps =
+      subst (λ (l : Route). ComesTo next run (Err (halt.Met number)) bodies new.run l more) (sym p.1) (met_there bodies old.run path noted more number p.0 h)
+  passes_so bodies old new path after noted more going same h (Err (halt.Stopped (Because failure))) p steps = scheduled_stops bodies old new path after noted more going same h (Because failure) p
+  passes_so bodies old new path after noted more going same h (Err (halt.Stopped Memory)) p steps = tt
+
   -- ---- a turn
 
   module _ (bodies : List S) (progress : Progress D) (path : Route) (thread : ℕ) (answer : Reply D) (noted : Noted D S) (h : IsUnderWay next run bodies progress path thread answer noted) where
@@ -300,6 +309,12 @@ module _ {D : Type 0} where
   pub over_scheduled : (old new : ExecutionState D) (path after : Route) (result : Result (Turn D) Stop) → old.over ≡ None → Schedules old path result new after → new.over ≡ over_after result
   over_scheduled old new path after result going event =
       (subst (λ (over : Option Stop). HappensAt over (schedule further_branches) (AllNeedMemory itself (schedule further_branches)) old path result new after) going event).1
+
+-- a schedule was stopped
+pub schedule_stops : {D S : Type 0} (bodies : List S) (old new : ExecutionState D) (path after : Route) (noted more : Noted D S) (stop : Stop) → Schedules old path (Err stop) new after
+    → Passes bodies old path noted (Err (halt.Stopped stop)) new after more
+schedule_stops bodies old new path after noted more (Because failure) event = event
+schedule_stops bodies old new path after noted more Memory event = tt
 
 -- what holds holds where a call succeeds
 pub on_ok : {A E : Type 0} {X : Type 0} (result : Result A E) → X → OnOk result X

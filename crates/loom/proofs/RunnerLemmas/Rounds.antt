@@ -47,6 +47,7 @@ use Rattle.loom.specs.Runner.Recording.{Answers, EndsRound, GoesOn, HasRun, IsKn
 use Rattle.loom.proofs.ModelLemmas.Checking.{IsChecking, checking_start, checking_stops, round_on, round_ends, round_fails}
 use Rattle.loom.proofs.ModelLemmas.Paths.{begins as read_well}
 use Rattle.loom.proofs.RunnerLemmas.Following.{IsFine, later_fine}
+use Rattle.loom.proofs.RunnerLemmas.Real.{done_before, done_more, made_more, with_more}
 
 -- ---- one run, and the step of its path
 
@@ -76,25 +77,6 @@ module _ {D V : Type 0} (takes : V → List Choice → D → V → Type 0) where
   round_goes limits old mid path' v v' (ending.Failed failure) Next has t next = absurd t
   round_goes limits old mid path' v v' (ending.Failed failure) Last has t next = absurd t
   round_goes limits old mid path' v v' (ending.Failed failure) (round.Failed found choices) has t next = absurd (cc next)
-
--- ---- the runs of the closure
-
-module _ {D F : Type 0} (called : F → Teller D → Result D Stop → F → Teller D → Type 0) (limits : Limits) where
-  abbrev pub with_more : Option (Made D) → List (Made D) → List (Made D)
-  with_more None real = real
-  with_more (Some m) real = m ∷ real
-
-  pub made_more : (f0 f f' : F) (real : List (Made D)) (more : Option (Made D)) → HasMade called limits f0 real f → MayHaveMade called limits f more f' → HasMade called limits f0 (with_more more real) f'
-  made_more f0 f f' real None made may = subst (λ (g : F). HasMade called limits f0 real g) (sym may) made
-  made_more f0 f f' real (Some m) made may = (f, made, may)
-
-  pub done_before : (does : Function D) (real : List (Made D)) (more : Option (Made D)) → AreDone does (with_more more real) → AreDone does real
-  done_before does real None done = done
-  done_before does real (Some m) done = λ k d l. done (suc k) d (omega arith)
-
-  pub done_more : (does : Function D) (real : List (Made D)) (more : Option (Made D)) → AreDone does (with_more more real) → IfSome more (λ m. IsDone does m.log.history)
-  done_more does real None done = tt
-  done_more does real (Some m) done = done 0 m (omega arith)
 
 -- ---- one run of the closure
 

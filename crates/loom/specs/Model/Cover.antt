@@ -13,7 +13,7 @@ use Rattle.loom_objects.specs.Exploring.{is_on}
 use Rattle.loom_objects.specs.Operation.Labelled.{Op}
 use Rattle.loom_engine.specs.declared.rt.execution.Progress.{Progress}
 use Rattle.loom_engine.specs.declared.rt.states.State.{State as Kept}
-use Rattle.loom_engine.specs.Execution.{ShowsCourse}
+use Rattle.loom_engine.specs.Execution.{ExecutionState, Schedules, ShowsCourse}
 use Rattle.loom_engine.specs.Path.Route.{Route, chosen, stored, trail}
 use Rattle.loom_engine.specs.Runs.Body.{Meaning}
 use Rattle.loom_engine.specs.Runs.Course.{Course}
@@ -120,6 +120,14 @@ pub record LooksUpRun {D S : Type 0} (run : Progress D) (bodies : List S) (path 
   pub views : Views
   pub order : IsInOrder run.state.scene.views views
   pub looks : LooksUp (state_in run bodies views) path old found new
+
+-- A run stands at a branch point, with these bodies. Its state was noted before, and it is given up; or it is noted or isn't, and the
+-- schedule is made.
+abbrev pub Passes : {D S : Type 0} → List S → ExecutionState D → Route → Noted D S → Result (Turn D) Halt → ExecutionState D → Route → Noted D S → Type 0
+Passes bodies old path noted (Ok turn) new after more = LooksUpRun old.run bodies path noted New more × Schedules old path (Ok turn) new after
+Passes bodies old path noted (Err (halt.Met number)) new after more = LooksUpRun old.run bodies path noted (Known number) more × (after ≡ path)
+Passes bodies old path noted (Err (halt.Stopped (Because failure))) new after more = Schedules old path (Err (Because failure)) new after
+Passes bodies old path noted (Err (halt.Stopped Memory)) new after more = Unit {0}
 
 -- a run that is stopped by a failure ends with it
 abbrev pub IsEndOf : {D : Type 0} → Stop → Ending D → Type 0

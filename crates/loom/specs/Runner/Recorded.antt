@@ -1,6 +1,7 @@
 -- What a check of recorded closures promises. A closure is a function of its replies if what it hands over rests on nothing but what
 -- its thread was told. For each such function that does what the threads did in the runs that the check has made of the closure, the
--- report is that of a check of the body which that function is (`ReportsRecorded`).
+-- report is that of a check of the body which that function is (`ReportsRecorded`). So it is of a check that remembers states
+-- (`CoversRecorded`).
 use Rattle.std.specs.Prelude.{ℕ, ◌≡◌, ⊤, Bool, List, [], ◌∷◌, All, Option, Some, None, option_map, IfSome, Result, Ok, Err, slice_get, slice_set}
 use Rattle.std.specs.declared.time.Duration.{Duration}
 use Rattle.loom_objects.specs.Operation.Labelled.{Op}
@@ -20,7 +21,9 @@ use Rattle.loom_engine.specs.Runs.Body.{Meaning, runs, with_child}
 use Rattle.loom_engine.specs.declared.rt.execution.Limits.{Limits}
 use Rattle.loom.specs.declared.model.builder.Builder.{Builder}
 use Rattle.loom.specs.declared.model.report.Report.{Report}
+use Rattle.loom.specs.declared.model.cover.Covered.{Covered}
 use Rattle.loom.specs.Model.Check.{Reports}
+use Rattle.loom.specs.Model.Covered.{Covering}
 use Rattle.loom.specs.Model.Settings.{explores}
 use Rattle.loom.specs.declared.runner.stop.Stop.{Stop}
 use Rattle.loom.specs.declared.runner.history.event.Event.{Event}
@@ -132,6 +135,17 @@ module _ {D F : Type 0} (called : F → Teller D → Result D Stop → F → Tel
 -- the function does what the threads did in each of these runs
 abbrev pub AreDone : {D : Type 0} → Function D → List (Made D) → Type 0
 AreDone does runs = All (λ m. IsDone does m.log.history) runs
+
+-- What a check says that has recorded this closure and remembers states, and of what the visitor was given: where the store gave what it
+-- may give, and holds what it may hold, and where the clock has answered so.
+pub record CoversRecorded {D F V : Type 0} (called : F → Teller D → Result D Stop → F → Teller D → Type 0) (takes : V → List Choice → D → V → Type 0) (b : Builder) (f : F) (v v' : V)
+    (gives holds : Option (List ℕ) → Type 0) (answered : Duration → Type 0) (covered : Covered) : Type 0 where
+  -- the runs that were made of the closure
+  pub real : List (Made D)
+  pub after : F
+  pub made : HasMade called (limits_of b) f real after
+  -- each function that does what the threads did in these is covered as a body
+  pub as_body : (does : Function D) → AreDone does real → Covering takes v v' b (by_function does) [] gives holds answered covered
 
 -- What a report says of a check that has recorded this closure, and of what the visitor was given: where the store gave what it may
 -- give, and holds what it may hold, and where the clock has answered so.

@@ -1,5 +1,5 @@
 -- A recording: what closures were seen to answer, and that it is true of a function. It isn't part of what a check promises.
-use Rattle.std.specs.Prelude.{ℕ, ◌≡◌, ◌≢◌, ◌<◌, ◌⊎◌, ⊤, Bool, true, false, List, [], ◌∷◌, length, ◌++◌, ◌+◌, Option, Some, None, Result, Ok, Err, IfSome, MatchOption, slice_get, slice_set}
+use Rattle.std.specs.Prelude.{ℕ, ◌≡◌, ◌≢◌, ◌<◌, ◌⊎◌, ⊤, Bool, true, false, List, [], ◌∷◌, length, ◌++◌, ◌+◌, Option, Some, None, Result, Ok, Err, IfSome, MatchOption, get_or, map, slice_get, slice_set}
 use Rattle.loom_objects.specs.Operation.Plain.{started_request}
 use Rattle.loom_objects.specs.declared.operation.Request.{Request}
 use Rattle.loom_objects.specs.declared.failure.Failure.{Failure as Because}
@@ -8,6 +8,8 @@ use Rattle.loom_objects.specs.declared.operation.Reply.TheVariants as reply
 use Rattle.loom_objects.specs.declared.operation.Turn.{Turn}
 use Rattle.loom_objects.specs.declared.operation.Turn.TheVariants as turn
 use Rattle.loom_engine.specs.Runs.Body.{with_child}
+use Rattle.loom_engine.specs.declared.rt.states.State.{State as Kept}
+use Rattle.loom_engine.specs.Covering.Kept.{Noted}
 use Rattle.loom_engine.specs.Path.Route.{Route, Steps, at_rest, chosen}
 use Rattle.loom_objects.specs.declared.choice.Choice.{Choice}
 use Rattle.loom_explain.specs.declared.event.Event.{Event}
@@ -33,7 +35,7 @@ use Rattle.loom.specs.declared.runner.error.RunnerError.TheVariants as error
 use Rattle.loom.specs.declared.runner.stop.Stop.{Stop}
 use Rattle.loom.specs.Runner.Handle.{Teller}
 use Rattle.loom.specs.Runner.Made.{Made}
-use Rattle.loom.specs.Runner.Recorded.{Function, IsDone, MayHaveMade, Word, begun_by, runs_by, spawned, tells}
+use Rattle.loom.specs.Runner.Recorded.{AreDone, Function, HasMade, HasMadeOne, IsDone, MayHaveMade, Word, begun_by, runs_by, spawned, tells}
 
 -- what contracts see of a recording: the answers, the oldest first, and how many places there are
 pub record Answers (D : Type 0) : Type 0 where
@@ -179,6 +181,54 @@ pub record MakesRound {D F V : Type 0} (called : F → Teller D → Result D Sto
   pub made : MayHaveMade called limits f real f'
   pub stays : (does : Function D) (words : List (Word D)) → IsTrueOf does words old → IfSome real (λ m. IsDone does m.log.history) → (later : List (Word D)) × IsTrueOf does later new
   pub known : IsKnownRound takes limits keeps new path v round path' v'
+
+-- ---- states
+
+module _ {D : Type 0} (words : List (Word D)) where
+  -- what the thread at the place was told
+  abbrev pub told_at : ℕ → Word D
+  told_at place = get_or words place []
+
+  -- a state that was noted, with what threads were told in place of where they are
+  abbrev pub told_in : Kept D ℕ → Kept D (Word D)
+  told_in kept = record {
+    threads = kept.threads;
+    objects = kept.objects;
+    views = kept.views;
+    lazies = kept.lazies;
+    max_threads = kept.max_threads;
+    ordered = kept.ordered;
+    bodies = map told_at kept.bodies;
+  }
+
+  -- and so each that was noted
+  abbrev pub all_told : Noted D ℕ → Noted D (Word D)
+  all_told noted = record { states = map told_in noted.states; led_by = noted.led_by }
+
+-- ---- runs of the closure that are recorded
+
+module _ {D F : Type 0} (called : F → Teller D → Result D Stop → F → Teller D → Type 0) (limits : Limits) (f : F) (old : Answers D) (f' : F) (new : Answers D) where
+  -- a recording that was true of a function stays so, if that does what the threads did in these runs
+  abbrev pub StaysTrue : List (Made D) → Type 0
+  StaysTrue real = (does : Function D) (words : List (Word D)) → IsTrueOf does words old → AreDone does real → (later : List (Word D)) × IsTrueOf does later new
+
+  -- runs were made of the closure and recorded
+  pub record Records : Type 0 where
+    pub real : List (Made D)
+    pub made : HasMade called limits f real f'
+    pub stays : StaysTrue real
+
+  -- one was, or none
+  pub record RecordsMore : Type 0 where
+    pub real : Option (Made D)
+    pub made : MayHaveMade called limits f real f'
+    pub stays : (does : Function D) (words : List (Word D)) → IsTrueOf does words old → IfSome real (λ m. IsDone does m.log.history) → (later : List (Word D)) × IsTrueOf does later new
+
+  -- one was
+  pub record RecordsRun : Type 0 where
+    pub run : Made D
+    pub made : HasMadeOne called limits f run f'
+    pub stays : (does : Function D) (words : List (Word D)) → IsTrueOf does words old → IsDone does run.log.history → (later : List (Word D)) × IsTrueOf does later new
 
 -- it isn't about settings, nor about a store
 abbrev pub IsOfRun : RunnerError → Type 0

@@ -269,13 +269,13 @@ impl Builder {
 
 /// How a run failed, and its choices.
 #[derive(Drop)]
-struct Failing {
-    failure: Failure,
-    choices: Vec<Choice>,
+pub(crate) struct Failing {
+    pub(crate) failure: Failure,
+    pub(crate) choices: Vec<Choice>,
 }
 
 /// What is told where a run failed after these.
-fn failed(runs: u64, met: u64, states: usize, failing: Failing) -> Covered
+pub(crate) fn failed(runs: u64, met: u64, states: usize, failing: Failing) -> Covered
     ensures { result ≡ Covered.Failed runs met states failing.failure failing.choices }
 {
     Covered::Failed {
@@ -288,7 +288,7 @@ fn failed(runs: u64, met: u64, states: usize, failing: Failing) -> Covered
 }
 
 /// What is told where a limit was reached after these.
-fn stopped(runs: u64, met: u64, states: usize, limit: Limit) -> Covered
+pub(crate) fn stopped(runs: u64, met: u64, states: usize, limit: Limit) -> Covered
     ensures { result ≡ Covered.Stopped runs met states limit }
 {
     Covered::Stopped {
@@ -300,7 +300,7 @@ fn stopped(runs: u64, met: u64, states: usize, limit: Limit) -> Covered
 }
 
 /// What is told where nothing is left to be tried, after so many runs that ended and so many that were given up.
-fn told(
+pub(crate) fn told(
     alloc: Global,
     runs: u64,
     met: u64,

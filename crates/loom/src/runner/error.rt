@@ -2,11 +2,13 @@
 ghost use Rattle.std.specs.Prelude.{◌≡◌};
 ghost use Rattle.loom.specs.Model.Refusals.{of_store};
 ghost use Rattle.loom.specs.Runner.Errors.{error_by, number_of, of_check};
+ghost use Rattle.loom.specs.declared.runner.error.RunnerError.TheVariants.{Memory};
 
 use crate::checkpoint::store::StoreError;
 use crate::model::error::CheckError;
 use crate::runner::stop::Stop;
 use loom_objects::operation::Request;
+use std::alloc::AllocError;
 use std::fmt;
 use thiserror::Error;
 
@@ -83,6 +85,14 @@ impl From<CheckError> for RunnerError {
             CheckError::Memory => RunnerError::Memory,
             _ => RunnerError::Settings(why),
         }
+    }
+}
+
+impl From<AllocError> for RunnerError {
+    ghost from_gives = { λ _ e. e ≡ Memory };
+
+    fn from(_e: AllocError) -> RunnerError {
+        RunnerError::Memory
     }
 }
 

@@ -8,6 +8,7 @@ ghost use Rattle.loom.specs.Runner.Recorded.{ReportsRecorded};
 ghost use Rattle.loom.specs.Runner.Refusals.{CountsFaults};
 
 mod adding;
+mod covering;
 mod playing;
 pub(crate) mod recording;
 mod rounds;
@@ -24,6 +25,7 @@ use crate::runner::handle::Handle;
 use crate::runner::recorded::rounds::make_recorded_rounds;
 use crate::runner::stop::Stop;
 use crate::runner::watcher::Watcher;
+pub use covering::cover_recorded;
 use log::Log;
 use std::alloc::Global;
 use std::sync::Wait;

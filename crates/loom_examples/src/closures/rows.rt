@@ -13,10 +13,12 @@ use log::Log;
 use loom::checkpoint::file::file_store;
 use loom::explain::Explanation;
 use loom::model::builder::Builder;
+use loom::model::cover::Covered;
 use loom::model::rising::Risen;
 use loom::model::{Replay, Report, Shortened, Walk, Walked};
 use loom::runner::{
-    Handle, NoVisitor, RunnerError, Stop, check_rising, check_with, explain, replay, shorten, walk,
+    Handle, NoVisitor, RunnerError, Stop, check_rising, check_with, cover_recorded, explain,
+    replay, shorten, walk,
 };
 use loom::{Choice, HostClock};
 use loom_ops::sync::atomic::Ordering::{Relaxed, Release};
@@ -193,6 +195,32 @@ impl ClosureRow {
         let mut is_first = true;
         let main = |handle: &mut Handle<u64, R>| self.run_next(handle, &mut is_first);
         check_rising(rt, alloc, builder, main, UP_TO)
+    }
+
+    /// What a check of the row finds that remembers states, at most so many, by these settings, the host's clock and the checkpoint file.
+    pub fn cover<R: Clock + Files + Threads + Wait + Clone + Send + 'static>(
+        self,
+        rt: &R,
+        alloc: Global,
+        builder: &Builder,
+        most_states: usize,
+    ) -> Result<Covered, RunnerError> {
+        let mut is_first = true;
+        let main = |handle: &mut Handle<u64, R>| self.run_next(handle, &mut is_first);
+        let mut clock = HostClock::start(rt);
+        let mut store = file_store(rt, alloc, &builder.checkpoint_file);
+        let log = None::<HostRuntime>;
+        cover_recorded(
+            rt,
+            alloc,
+            builder,
+            main,
+            &mut NoVisitor,
+            &mut clock,
+            &mut store,
+            most_states,
+            &log,
+        )
     }
 
     /// What a walk through runs of the row finds, by these settings and the host's clock.

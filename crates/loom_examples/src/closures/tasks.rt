@@ -1,8 +1,9 @@
-//! What the program does with a row of closures by its options: a check by other settings or with rising bounds, a walk, one run by
-//! given choices, a shorter failure, an explanation of a failure, and a JSON object.
+//! What the program does with a row of closures by its options: a check by other settings, with rising bounds or one that
+//! remembers states, a walk, one run by given choices, a shorter failure, an explanation of a failure, and a JSON object.
 use crate::closures::rows::{ClosureRow, refuse_run};
+use crate::rows::cover::{self, ShownCovered};
 use crate::rows::drawing::Drawing;
-use crate::rows::json::{of_replay, of_report, print_answer};
+use crate::rows::json::{of_covered, of_replay, of_report, print_answer};
 use crate::rows::line::{self, ShownReport};
 use crate::rows::options::{RowAsked, Share};
 use crate::rows::tasks::{ShownReplay, ShownRisen, Task};
@@ -10,6 +11,7 @@ use crate::rows::walks::{SHORTENING_RUNS, failing_in, print_shortened, print_wal
 use crate::rows::words::{refuse, refuse_choices};
 use log::Log;
 use loom::model::builder::Builder;
+use loom::model::cover::Covered;
 use loom::model::different::MOST_DIFFERENT;
 use loom::model::rising::Risen;
 use loom::model::{Replay, Report, Walk};
@@ -30,6 +32,8 @@ enum Found {
     Risen(Risen),
     /// How a run by given choices ended.
     Replay(Replay<u64>),
+    /// What a check found that remembers states.
+    Covered(Covered),
 }
 
 impl Found {
@@ -40,6 +44,10 @@ impl Found {
             Found::Risen(risen) => failing_choices(&risen.report),
             Found::Replay(Replay::Failed { choices, .. }) => Some(choices.as_slice()),
             Found::Replay(Replay::Ended { .. }) => None,
+            Found::Covered(Covered::Failed { choices, .. }) => Some(choices.as_slice()),
+            Found::Covered(
+                Covered::Complete { .. } | Covered::Livelock { .. } | Covered::Stopped { .. },
+            ) => None,
         }
     }
 
@@ -64,6 +72,11 @@ impl Found {
                     Replay::Failed { .. } => Ok(1),
                 }
             }
+            Found::Covered(covered) => {
+                let shown = ShownCovered(covered);
+                writeln!(out, "{shown}")?;
+                Ok(cover::status_of(covered))
+            }
         }
     }
 
@@ -73,6 +86,7 @@ impl Found {
             Found::Report(report) => of_report(alloc, name, None, report)?,
             Found::Risen(risen) => of_report(alloc, name, Some(risen.bound), &risen.report)?,
             Found::Replay(replay) => of_replay(alloc, name, replay)?,
+            Found::Covered(covered) => of_covered(alloc, name, covered)?,
         };
         print_answer(alloc, &answer, out)
     }
@@ -111,6 +125,9 @@ pub fn run_asked<
     if let Some(walk) = asked.walk {
         return walk_through(rt, log, row, &builder, walk, asked, out, err);
     }
+    if let Some(most_states) = asked.covers {
+        return cover_through(rt, row, &builder, most_states, asked, out, err);
+    }
     let Some(text) = asked.replay else {
         let task = if asked.rises { Task::Rise } else { Task::Check };
         return do_task(rt, row, &builder, task, asked, out, err);
@@ -126,9 +143,6 @@ pub fn run_asked<
 
 /// Why rows of closures don't take these words, if they don't.
 fn refusal(asked: &RowAsked) -> Option<&'static str> {
-    if asked.covers.is_some() {
-        return Some("error: '--cover' is for rows whose bodies are scripts");
-    }
     if asked.jobs.is_some() {
         return Some("error: '--jobs' is for rows whose bodies are scripts");
     }
@@ -163,6 +177,29 @@ fn walk_through<
                 tell(rt, row, builder, choices, asked, out)?;
             }
             Ok(status)
+        }
+        Err(error) => refuse_run(err, builder, error),
+    }
+}
+
+/// Covers the row, by this builder and with at most so many states, prints what comes of it, and answers the exit status.
+fn cover_through<
+    R: AllocGlobal + Clock + Files + Threads + Wait + Clone + Send + 'static,
+    O: Write,
+    E: Write,
+>(
+    rt: &R,
+    row: ClosureRow,
+    builder: &Builder,
+    most_states: usize,
+    asked: RowAsked,
+    out: &mut O,
+    err: &mut E,
+) -> io::Result<u8> {
+    match row.cover(rt, rt.alloc(), builder, most_states) {
+        Ok(covered) => {
+            let found = Found::Covered(covered);
+            print_found(rt, row, builder, &found, asked, out)
         }
         Err(error) => refuse_run(err, builder, error),
     }

@@ -191,7 +191,11 @@ pub(crate) fn of_report(
 }
 
 /// The object of what a check found that remembers states.
-fn of_covered(alloc: Global, name: &str, covered: &Covered) -> Result<Answer, AllocError> {
+pub(crate) fn of_covered(
+    alloc: Global,
+    name: &str,
+    covered: &Covered,
+) -> Result<Answer, AllocError> {
     let (result, runs, met, states) = counts_of(covered);
     let mut object = json!(in alloc; {
         "row": name,

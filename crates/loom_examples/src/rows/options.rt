@@ -494,8 +494,7 @@ fn command<'a>(alloc: Global) -> Result<Command<'a>, AllocError> {
     let file = Arg::new(alloc, "FILE")
         .help("the file that the check goes on from, and keeps its checkpoints in")
         .conflicts_with("rising")?
-        .conflicts_with("replay")?
-        .conflicts_with("cover")?;
+        .conflicts_with("replay")?;
     Command::new(alloc, "loom_rows")
         .no_binary_name(true)
         .disable_version_flag(true)

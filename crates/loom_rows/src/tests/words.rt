@@ -270,7 +270,7 @@ static OBJECTS: [Said; 4] = [
 ];
 
 // Checks that remember states, of which none begins here, and words that don't go with them.
-static COVERED: [Said; 5] = [
+static COVERED: [Said; 4] = [
     said!(
         &["--cover", "--max-duration", "0", "lock_beside"],
         "stopped 0 met 0 states 0\n",
@@ -282,12 +282,6 @@ static COVERED: [Said; 5] = [
         "{\"limit\":\"max_duration\",\"met\":0,\"result\":\"stopped\",\"row\":\"lock_beside\",\"runs\":0,\"states\":0}\n",
         "",
         0
-    ),
-    said!(
-        &["--cover", "lock_beside", "file"],
-        "",
-        usage!("the argument '--cover' cannot be used with '[FILE]'"),
-        2
     ),
     said!(
         &["--states", "3", "lock_beside"],

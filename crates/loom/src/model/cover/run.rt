@@ -4,13 +4,14 @@ ghost use Rattle.std.specs.Prelude.{◌≡◌, ◌≤◌, ◌+◌, [], None, IfO
 ghost use Rattle.loom_engine.specs.Path.Route.{IsAtStart, IsSameSearch};
 ghost use Rattle.loom_engine.specs.Trees.Meeting.{whole_search};
 ghost use Rattle.loom_objects.specs.declared.operation.Reply.TheVariants.{Start};
-ghost use Rattle.loom.specs.Model.Cover.{AreNoted, ComesTo, EndsWith, IsAtBranch, IsEndBy, IsEndOf, IsHanding, IsUnderWay, LooksUpRun, Noting, StaysOpen, noting};
+ghost use Rattle.loom.specs.Model.Cover.{AreNoted, ComesTo, EndsWith, IsEndBy, IsEndOf, IsHanding, IsUnderWay, LooksUpRun, Noting, Passes, StaysOpen, noting};
 
 use crate::model::run::{Room, add_child};
 use loom_engine::rt::execution::{Begun, Execution, Limits};
 use loom_engine::rt::path::Path;
 use loom_engine::rt::states::States;
 use loom_objects::body::Body;
+use loom_objects::data::Data;
 use loom_objects::failure::{Failure, Stop, failed};
 use loom_objects::operation::{Op, Reply, Turn};
 use loom_views::rt::failure::FailureKind;
@@ -108,7 +109,7 @@ where
 }
 
 /// How a run ends whose last operation was answered so. A turn is no end: it is never answered here.
-fn ended<D: Drop>(answer: Result<Turn<D>, Halt>) -> Result<Ending<D>, AllocError>
+pub(crate) fn ended<D: Drop>(answer: Result<Turn<D>, Halt>) -> Result<Ending<D>, AllocError>
     ensures { IfOk result (IsEndBy answer) }
 {
     match answer {
@@ -159,17 +160,16 @@ where
     }
 }
 
-/// The schedule at the first branch point of an operation, up to the next turn; or the run is given up there.
-fn pass<B: Body + Same>(
-    execution: &mut Execution<B::Data>,
+/// The schedule at the first branch point of an operation, up to the next turn; or the run is given up there. Bodies are only kept and
+/// compared here.
+pub(crate) fn pass<D: Data + Same, B: Body + Same>(
+    execution: &mut Execution<D>,
     bodies: &[B],
     path: &mut Path,
-    states: &mut States<B::Data, B>,
-) -> Result<Turn<B::Data>, Halt>
-where
-    B::Data: Same,
+    states: &mut States<D, B>,
+) -> Result<Turn<D>, Halt>
     requires { execution.old.over ≡ None }
-    ensures event { (run : Noting B.Data B) → IsAtBranch B.next run bodies.now execution.old.run path.old states.old → ComesTo B.next run result bodies.now execution.new.run path.new states.new }
+    ensures event { Passes bodies.now execution.old path.old states.old result execution.new path.new states.new }
     ensures open { StaysOpen result execution.new.over }
     ensures steps { execution.new.run.state.steps_left ≡ execution.old.run.state.steps_left }
     ensures same { IsSameSearch path.old path.new }
@@ -187,14 +187,12 @@ where
 /// Looks the state of the run up, if it explores past its path's nodes. If the state wasn't noted it is noted. An error where memory
 /// is refused.
 #[tactic(auto, using(crate::proofs::ModelLemmas::Covering::not_looked_up))]
-fn look_up<B: Body + Same>(
-    execution: &Execution<B::Data>,
+fn look_up<D: Data + Same, B: Body + Same>(
+    execution: &Execution<D>,
     bodies: &[B],
     path: &Path,
-    states: &mut States<B::Data, B>,
+    states: &mut States<D, B>,
 ) -> Result<Found, AllocError>
-where
-    B::Data: Same,
     ensures { IfOk result (λ found. LooksUpRun execution.now.run bodies.now path.now states.old found states.new) }
 {
     if !path.explores_now() {

@@ -118,7 +118,7 @@ fn take_turns<D: Exact>(
 }
 
 /// What the thread hands over that is told the reply, if that is recorded. Then it is at the next place.
-fn next_op<D: Exact>(
+pub(crate) fn next_op<D: Exact>(
     recording: &Recording<D>,
     places: &mut Vec<usize>,
     thread: u8,

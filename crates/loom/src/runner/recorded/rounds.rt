@@ -289,7 +289,7 @@ fn end_round<D: Exact, V: Visitor<D>>(
 
 /// Makes the run of this number of the closure, along the path. Answers its events. `Memory` and `Refused` where a growth or a thread
 /// was refused, `NotSettled` where the run's end isn't settled.
-fn make_real_run<
+pub(crate) fn make_real_run<
     D: Exact + 'static,
     R: Threads + Wait + Clone + Send + 'static,
     F: FnMut(&mut Handle<D, R>) -> Result<D, Stop>,

@@ -2,6 +2,7 @@
 use super::TWO_NODES;
 use crate::tests::asserting::holds;
 use crate::tests::rows::program_rows;
+use crate::tests::words::says;
 use loom_examples::rows::{self, Row};
 use loom_testing::pens::{Pen, Printed, is_printed};
 use std::process::Abort;
@@ -73,8 +74,8 @@ fn has_two_nodes(text: &io::Result<String>) -> bool {
 }
 
 // Whether the file was there, which isn't any more.
-fn is_removed(rt: &impl Files) -> bool {
-    fs::remove_file(rt, FILE).is_ok()
+fn is_removed(rt: &impl Files, file: &str) -> bool {
+    fs::remove_file(rt, file).is_ok()
 }
 
 fn calls_print(rt: &(impl Abort + AllocGlobal + Files), rows: &[Row]) {
@@ -86,7 +87,44 @@ fn calls_print(rt: &(impl Abort + AllocGlobal + Files), rows: &[Row]) {
 
 #[test]
 fn the_program_goes_on(rt: HostRuntime) {
-    is_removed(&rt);
+    is_removed(&rt, FILE);
     calls_print(&rt, program_rows(&rt).as_slice());
-    holds(&rt, is_removed(&rt), "the file is there");
+    holds(&rt, is_removed(&rt, FILE), "the file is there");
+}
+
+const COVERED: &str = "loom_covered.json";
+
+// A check that remembers states goes on from a file, which a plain check refuses.
+static COVERS: [Call; 3] = [
+    (
+        &["--cover", "--max-permutations", "1", "lock_beside", COVERED],
+        "stopped 1 met 0 states 4\n",
+        "",
+        0,
+    ),
+    (&["lock_beside", COVERED], "", OTHER_SEARCH, 2),
+    (
+        &["--cover", "lock_beside", COVERED],
+        "complete 1 met 1 states 4\n",
+        "",
+        0,
+    ),
+];
+
+const OTHER_SEARCH: &str =
+    "error 8\nloom_covered.json: the checkpoint is JSON, but no path of a check: go on with a list of parts by several workers, name another file, or delete it and begin anew. No run was made, and the file is as it was.\n";
+
+#[test]
+fn covering_goes_on(rt: HostRuntime) {
+    is_removed(&rt, COVERED);
+    for (words, line, error, status) in &COVERS {
+        let printed = Printed {
+            out: *line,
+            goes_on: false,
+            err: *error,
+            status: *status,
+        };
+        says(&rt, *words, &printed);
+    }
+    holds(&rt, is_removed(&rt, COVERED), "the file is there");
 }

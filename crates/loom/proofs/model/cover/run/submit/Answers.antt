@@ -1,4 +1,4 @@
-use Rattle.loom.proofs.ModelLemmas.Covering.{begun_branches, begun_stops, begun_turns, on_ok, over_then, stays_open}
+use Rattle.loom.proofs.ModelLemmas.Covering.{begun_branches, begun_stops, begun_turns, on_ok, over_then, passes_so, stays_open}
 use Rattle.loom.proofs.ModelLemmas.Handing.{joined}
 use Rattle.loom_engine.specs.declared.rt.execution.Begun.TheVariants as begun
 use Rattle.loom.proofs.model.cover.run.submit.Goals as goal
@@ -28,7 +28,9 @@ returns-in-Ok-AtBranch-clause-event g c = λ run h.
     let grown = rw c.split-request.ensures.started at c.in-Ok.ensures.more in
     let at = begun_branches g.B.Body.next run c.args.bodies.now.items c.args.execution.now c.begin.new.self c.args.path.now c.begin.new.path c.args.op c.args.states.now c.requires c.begin.ensures.same.0
     c.split-request.result.0 c.split-request.ensures.plain h (rw c.in-Ok-AtBranch.field-0-is at c.in-Ok-AtBranch.ensures.event) c.in-Ok-AtBranch.ensures.steps c.add_child.new.bodies.items grown in
-    rw (← c.as_slice.ensures.value) (c.pass.ensures.event run (rw (← c.as_slice.ensures.value) at at))
+    passes_so g.B.Body.next run c.add_child.new.bodies.items c.begin.new.self c.pass.new.execution c.begin.new.path c.pass.new.path c.args.states.now c.pass.new.states
+    (over_then c.args.execution.now c.begin.new.self c.split-request.result.0 c.args.path.now c.begin.new.path begun.AtBranch c.requires (rw c.in-Ok-AtBranch.field-0-is at c.in-Ok-AtBranch.ensures.event))
+    c.pass.ensures.same.0 at c.pass.result (rw c.as_slice.ensures.value at c.pass.ensures.event) c.pass.ensures.steps
 
 pub returns-in-Ok-AtBranch-clause-steps : goal.returns-in-Ok-AtBranch-clause-steps
 returns-in-Ok-AtBranch-clause-steps g c = on_ok c.pass.result (rw (← c.pass.ensures.steps) at c.in-Ok-AtBranch.ensures.steps)
