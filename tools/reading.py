@@ -25,8 +25,8 @@ WITH_A_PATH = ["loom/specs/Model/Check.antt"], 2000
 RULES = {
     f"loom_objects/specs/{name}.antt"
     for name in [
-        "Rules/Alloc", "Rules/Arc", "Rules/Atomic", "Rules/Cell", "Rules/Condvar", "Rules/Ending", "Rules/FirstLeak",
-        "Rules/Leaks", "Rules/Locals", "Rules/Moves", "Rules/Mpsc", "Rules/Mutex", "Rules/Notify", "Rules/Replied",
+        "Rules/Alloc", "Rules/Arc", "Rules/Atomic", "Rules/Cell", "Rules/Condvar", "Rules/Ending", "Rules/Leaks",
+        "Rules/Locals", "Rules/Moves", "Rules/Mpsc", "Rules/Mutex", "Rules/Notify", "Rules/Replied",
         "Rules/Rule", "Rules/RwLock", "Rules/Steps", "Rules/Tables", "Rules/Thread", "Rules/Uses", "Rules/Waker",
         "Scene/Lookup", "Schedule/Defaults", "Schedule/Offers", "Lent", "World",
     ]

@@ -25,11 +25,9 @@ pub struct Builder {
     pub max_duration: Option<Duration>,
     /// How many different runs a walk tells apart, where it is to count them (own). It keeps a number of 64 bits of each.
     pub max_different: Option<usize>,
-    /// Whether another thread is tried at a schedule only where an access of the run calls for it, and not each that can go
-    /// on (own: loom's search is always reduced).
+    /// Whether another thread is tried at a schedule only where an access calls for it (own: loom's search is always reduced).
     pub reduce: bool,
-    /// How many times a run of a check may leave a thread that could have gone on, if that is bounded: 0 to 255. No replay
-    /// is bounded.
+    /// How many times a run of a check, not a replay, may leave a thread that could have gone on, if that is bounded: 0 to 255.
     pub preemption_bound: Option<usize>,
     /// The file with which `check` begins, and in which it saves its checkpoints, if any.
     pub checkpoint_file: Option<String>,
@@ -41,8 +39,7 @@ pub struct Builder {
     pub location: bool,
     /// Whether it is logged which thread goes on.
     pub log: bool,
-    /// Whether a check of a closure records what its threads answer, and makes the runs whose answers are all known without threads
-    /// (own): what that asks of the closure says `runner::check_recorded`. A check of a body is the same with it.
+    /// Whether a check of a closure records it, and makes what is known without threads (own): see `runner::check_recorded`.
     pub recorded: bool,
 }
 

@@ -54,7 +54,6 @@ pub enum CheckError {
     CheckpointInterval,
     #[error("`max_steps` is 0: set it to 1 or more, as 1000000")]
     MaxSteps,
-    /// This variable isn't a number.
     #[error("`{0}` is set, and not to a number below 2^64 in decimal digits: correct it, or unset it")]
     NotANumber(Variable),
     #[error("the checkpoint is not JSON: it was cut off or changed, so delete it and begin anew")]
