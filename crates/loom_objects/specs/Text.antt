@@ -29,7 +29,7 @@ from_char (byte ∷ bytes) = cond (begins_char byte) (byte ∷ bytes) (from_char
 abbrev pub first_part : List ℕ → List ℕ
 first_part bytes = cond (nat_le (length bytes) 24) bytes (take (cut_up_to bytes 24) bytes)
 
--- the same with the last characters that fit
+-- the bytes, if there are at most 24, and else the last characters that fit
 abbrev pub last_part : List ℕ → List ℕ
 last_part bytes = cond (nat_le (length bytes) 24) bytes (from_char (drop (length bytes - 24) bytes))
 

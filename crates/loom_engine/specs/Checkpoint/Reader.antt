@@ -52,7 +52,7 @@ abbrev pub expected : List ℕ → Members → Option (Data × Members)
 expected key no_members = None
 expected key (member k d ms) = if bytes_eq k key then Some (d, ms) else None
 
--- the same, read as f does
+-- that value, read as f does, and the members after it
 unfoldable pub taken : {A : Type 0} → (Data → Option A) → List ℕ → Members → Option (A × Members)
 taken f key ms = do
   found ← expected key ms

@@ -97,7 +97,7 @@ module _ {D : Type 0} where
   opened_by_mutex (mutex_op.Release n value) = None
   opened_by_mutex (mutex_op.Put n value) = None
 
-  -- the same of a read-write lock
+  -- the read-write lock whose data the operation takes out without holding it; its own reply has the data
   abbrev pub opened_by_rwlock : RwLockOp D → Option ℕ
   opened_by_rwlock (lock_op.GetMut n) = Some n
   opened_by_rwlock (lock_op.IntoInner n) = Some n

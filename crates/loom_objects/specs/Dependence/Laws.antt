@@ -13,7 +13,7 @@ use Rattle.loom_objects.specs.Dependence.Shown.{ShowsOrder, nothing, slot_of}
 abbrev pub TellsOrder : Graph → ℕ → List ℕ → Access → Type 0
 TellsOrder g own view access = (other : List ℕ) → Shows g access.point other → within other view ≡ reaches g access.point own
 
--- the same of the access that is kept for a use, if one is
+-- of an access that is kept, if one is, the place is its own, and the vector tells whether it comes before the point
 abbrev pub TellsKept : Graph → ℕ → List ℕ → Option Access → Option LastAccess → Type 0
 TellsKept g own view None None = Unit {0}
 TellsKept g own view None (Some kept) = ⊥

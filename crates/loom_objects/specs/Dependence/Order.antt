@@ -66,7 +66,7 @@ abbrev pub unordered_by : Order → ℕ → Option Use → Option ℕ
 unordered_by order t None = None
 unordered_by order t (Some used) = unordered_place order.graph (slice_get order.threads t) (last_before order used)
 
--- the same of each thread, by what each is about to do
+-- where those accesses were made, for each thread from the one of this number on, by what each is about to do
 abbrev pub unordered_from : Order → ℕ → List (Option Use) → List (Option ℕ)
 unordered_from order t [] = []
 unordered_from order t (used ∷ uses) = unordered_by order t used ∷ unordered_from order (suc t) uses

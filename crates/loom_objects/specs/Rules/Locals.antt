@@ -38,7 +38,7 @@ module _ {D : Type 0} where
   abbrev pub local_at : ℕ → Thread D → Option (Keyed D)
   local_at key thread = find (has_key key) thread.locals
 
-  -- the same of a thread, if there is one
+  -- the value of this key in a thread, if there are both
   abbrev pub local_of : ℕ → Option (Thread D) → Option (Keyed D)
   local_of key None = None
   local_of key (Some thread) = local_at key thread

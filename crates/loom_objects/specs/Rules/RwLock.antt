@@ -203,7 +203,7 @@ module _ {D : Type 0} where
     lock ← a_rwlock n w
     reads_lock n lock w
 
-  -- the same, to write
+  -- a lock that isn't refused is taken to write
   abbrev pub writes_at : ℕ → World D → Result (Reply D × World D) FailureKind
   writes_at n w = do
     lock ← a_rwlock n w

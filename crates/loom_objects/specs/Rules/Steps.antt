@@ -57,7 +57,7 @@ module _ {D : Type 0} where
   abbrev pub read_slot : Loading → World D → ℕ → Tree (Turn D × World D)
   read_slot load w slot = came (reads load.access w slot) >>= told
 
-  -- the same by the slot that is chosen
+  -- an access goes on by the slot that is chosen
   abbrev pub read_by : Loading → World D → Choice → Tree (Turn D × World D)
   read_by load w choice = slot_of choice >>= read_slot load w
 

@@ -42,7 +42,7 @@ module _ {D : Type 0} where
   abbrev pub Does : {A : Type 0} → (World D → Result (A × World D) FailureKind) → Stage D → Result A FailureKind → Stage D → Type 0
   Does rule old result new = (p : Points) → (left : ℕ) → ShowsViews p old.views → Comes p left (rule (world_of p left old)) result new
 
-  -- the same of code that fails only where memory is refused
+  -- code that fails only where memory is refused does as the rule says, where it answers
   abbrev pub DoesIfOk : {A E : Type 0} → (World D → Result (A × World D) FailureKind) → Stage D → Result A E → Stage D → Type 0
   DoesIfOk rule old (Ok a) new = Does rule old (Ok a) new
   DoesIfOk rule old (Err e) new = ⊤
@@ -53,7 +53,7 @@ KeepsAt p None slot = Unit {0}
 KeepsAt p (Some n) slot = IsSlotKept (slice_get p.places n) slot
 
 module _ {D : Type 0} where
-  -- the same of an access to a slot in which a store is kept
+  -- an access does as the rule says, where a store is kept in its slot
   abbrev pub DoesAt : {A : Type 0} → AtomicOp → ℕ → (World D → Result (A × World D) FailureKind) → Stage D → Result A FailureKind → Stage D → Type 0
   DoesAt access slot rule old result new =
       (p : Points) → (left : ℕ) → ShowsViews p old.views → KeepsAt p (accessed access) slot → Comes p left (rule (world_of p left old)) result new

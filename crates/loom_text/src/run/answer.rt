@@ -82,7 +82,7 @@ impl fmt::Display for Answer<'_> {
     }
 }
 
-/// The same lines of a walk, with how many runs it made in place of a limit.
+/// The lines of a walk are those of an answer, with how many runs it made in place of a limit.
 impl fmt::Display for Sight<'_> {
     fn fmt<W: fmt::Write>(&self, f: &mut fmt::Formatter<W>) -> fmt::Result {
         write_states(f, self.test, self.layout, &self.seen.counts)?;

@@ -48,7 +48,7 @@ impl State {
         })
     }
 
-    /// The same state. It fails only where a growth is refused.
+    /// A copy in this state. It fails only where a growth is refused.
     pub(crate) fn try_clone(&self) -> Result<State, AllocError>
         ensures { IfOk result (λ copy. copy ≡ self.now) }
     {
