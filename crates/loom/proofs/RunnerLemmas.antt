@@ -12,6 +12,8 @@ pub mod Playing
 pub mod Real
 pub mod Recorded
 pub mod RecordedCover
+pub mod RecordedParts
+pub mod RecordedWorkers
 pub mod Remembering
 pub mod Rounds
 pub mod Tried

@@ -19,6 +19,7 @@ pub mod Made
 pub mod Next
 pub mod Parallel
 pub mod Recorded
+pub mod RecordedWorkers
 pub mod Recording
 pub mod Refusals
 pub mod Replay

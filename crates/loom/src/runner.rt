@@ -47,7 +47,7 @@ pub use loom_ops::answers::mpsc::TryRecvError;
 pub use parallel::apart::Apart;
 pub use parallel::visitors::Visitors;
 pub use parallel::{Found, Workers, check_parallel};
-pub use recorded::{check_recorded, cover_recorded};
+pub use recorded::{check_parallel_recorded, check_part_recorded, check_recorded, cover_recorded};
 pub use replays::replay;
 pub use rising::check_rising;
 pub use shortening::shorten;

@@ -125,6 +125,10 @@ store_so e is = go (case_of e)
 pub no_fault : {A : Type 0} (r : Result A RunnerError) (e : RunnerError) (old new : ℕ) → r ≡ Err e → e ≢ error.Settings why.Store → new ≡ old → CountsFaults r old new
 no_fault r e old new is not same = (λ store. absurd (not (err_same r e (error.Settings why.Store) is store)), λ other. same)
 
+-- nor is want of memory one
+pub memory_faultless : {A : Type 0} (r : Result A RunnerError) (old new : ℕ) → IsErrAnd r (λ x. x ≡ error.Memory) → new ≡ old → CountsFaults r old new
+memory_faultless r old new is same = no_fault r error.Memory old new (made_error r error.Memory is) (λ e. cc e) same
+
 pub settings_faultless : {A : Type 0} (b : Builder) (r : Result A RunnerError) (e : CheckError) (old new : ℕ) → IsErrAnd r (λ x. x ≡ of_check e) → tested b ≡ Err e → new ≡ old → CountsFaults r old new
 settings_faultless b r e old new is out same =
     no_fault r (of_check e) old new (made_error r (of_check e) is) (λ store. never_store b (out ∙ ap Err (store_so e store))) same

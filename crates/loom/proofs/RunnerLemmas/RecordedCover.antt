@@ -1,11 +1,10 @@
 -- Runs of what is recorded that note states, and the checks of such runs.
-use Rattle.std.proofs.Common.{◌≡◌, ◌+◌, ℕ, suc, Bool, true, List, [], ◌∷◌, ◌++◌, length, map, refl, sym, ap, ap₂, ◌∙◌, subst, inl, inr}
-use Rattle.std.specs.Prelude.{◌⊎◌, ⊤, IfOk, IfSome, OnOk, Option, Some, None, Result, Ok, Err, option_map, slice_get, slice_set}
+use Rattle.std.proofs.Common.{◌≡◌, ◌≤◌, ◌+◌, ℕ, suc, Bool, true, List, [], ◌∷◌, ◌++◌, length, map, refl, sym, ap, ap₂, ◌∙◌, subst, inl, inr, arith}
+use Rattle.std.specs.Prelude.{◌⊎◌, ⊤, IfOk, IfSome, OnErr, OnOk, Option, Some, None, Result, Ok, Err, option_map, slice_get, slice_set}
 use Rattle.std.proofs.lemmas.List.{map-append}
 use Rattle.std.proofs.lemmas.Option.{get_or_from_slice_get, slice_get-map, slice_get_within}
 use Rattle.std.specs.declared.time.Duration.{Duration}
 use Rattle.loom_views.specs.declared.rt.views.Views.{Views}
-use Rattle.loom_objects.specs.Exploring.{is_on}
 use Rattle.loom_objects.specs.Operation.Labelled.{Op}
 use Rattle.loom_objects.specs.Operation.Plain.{plain, started}
 use Rattle.loom_objects.specs.declared.choice.Choice.{Choice}
@@ -17,11 +16,11 @@ use Rattle.loom_objects.specs.declared.operation.Turn.{Turn}
 use Rattle.loom_engine.specs.declared.rt.execution.Limits.{Limits}
 use Rattle.loom_engine.specs.declared.rt.execution.Progress.{Progress}
 use Rattle.loom_engine.specs.declared.rt.states.State.{State as Kept}
+use Rattle.loom_engine.specs.Covering.Between.{Tracks}
 use Rattle.loom_engine.specs.Covering.Kept.{Noted, NotesAs, state_in}
 use Rattle.loom_engine.specs.Execution.{ExecutionState}
-use Rattle.loom_engine.specs.Path.Route.{IsAtStart, IsSameSearch, Route, at_rest, chosen, trail}
+use Rattle.loom_engine.specs.Path.Route.{IsAtStart, IsSameSearch, Route, at_rest, chosen}
 use Rattle.loom_engine.specs.Runs.Body.{Meaning, with_child}
-use Rattle.loom_engine.specs.Trees.Drive.{is_used_up}
 use Rattle.loom_engine.specs.Trees.Meeting.{Settings, whole_search}
 use Rattle.loom_objects.specs.Exploring.{initially}
 use Rattle.loom.specs.declared.model.builder.Builder.{Builder}
@@ -33,14 +32,18 @@ use Rattle.loom.specs.declared.model.cover.run.Halt.{Halt}
 use Rattle.loom.specs.declared.model.cover.run.Halt.TheVariants as halt
 use Rattle.loom.specs.declared.runner.stop.Stop.{Stop as RunStop}
 use Rattle.loom.specs.Model.Cover.{ComesTo, EndsWith, IsEndBy, IsHanding, IsUnderWay, LooksUp, LooksUpRun, Noting, Passes}
+use Rattle.loom.specs.Model.CoverStores.{IsCoverKept, StillHolds}
 use Rattle.loom.specs.Model.Covered.{Covering}
 use Rattle.loom.specs.Model.Settings.{explores}
+use Rattle.loom.specs.Model.Stores.{Keeps}
 use Rattle.loom.specs.Runner.Check.{limits_of}
 use Rattle.loom.specs.Runner.Handle.{Teller}
 use Rattle.loom.specs.Runner.Made.{Made}
-use Rattle.loom.specs.Runner.Recorded.{AreDone, CoversRecorded, Function, HasMadeOne, IsDone, Word, begun_by, by_function, spawned, tells}
+use Rattle.loom.specs.Runner.Recorded.{AreDone, CoversRecorded, Function, HasMadeOne, IsDone, StillHoldsRecorded, Word, begun_by, by_function, spawned, tells}
 use Rattle.loom.specs.Runner.Recording.{Answers, AreAt, HandsOver, IsTrueOf, Records, RecordsMore, RecordsRun, all_told, told_at, told_in}
+use Rattle.loom.proofs.ModelLemmas.CoverRounds.{IsChecking, checking_left, left_late}
 use Rattle.loom.proofs.ModelLemmas.Covering.{ended_so, hands}
+use Rattle.loom.proofs.ModelLemmas.Errors.{on_error}
 use Rattle.loom.proofs.ModelLemmas.Handing.{IsHanded}
 use Rattle.loom.proofs.RunnerLemmas.Recorded.{none_is_true, plain_starting, started_starting}
 use Rattle.loom.proofs.RunnerLemmas.Real.{done_before, done_more, made_more, with_more}
@@ -203,3 +206,42 @@ covers_so called takes b f f' v v' gives holds answered r r' (Ok covered) none o
       covers does later.0 later.1;
 }
 covers_so called takes b f f' v v' gives holds answered r r' (Err e) none one records covers = tt
+
+-- ---- what the store may hold after an error
+
+module _ {D V : Type 0} (b : Builder) (takes : V → List Choice → D → V → Type 0) (v0 : V) (gives : Option (List ℕ) → Type 0) (recording : Answers D) (holds : Option (List ℕ) → Type 0) (path : Route) (v : V)
+    (count until : ℕ) (noted : Noted D ℕ) (ways : Tracks)
+    (checking : (does : Function D) (words : List (Word D)) → IsTrueOf does words recording
+    → (most : ℕ) × (most + until ≤ b.checkpoint_interval) × IsChecking b (by_function does) [] takes v0 gives holds path v count most (all_told words noted) ways)
+    (first now : Option (List ℕ) → Type 0) where
+  -- the path wasn't saved
+  pub left_unsaved : {A E : Type 0} (result : Result A E) → Keeps holds now → (does : Function D) (words : List (Word D)) → IsTrueOf does words recording
+      → OnErr result (StillHolds b (by_function does) [] gives first now)
+  left_unsaved result keeps does words z =
+      let c = checking does words z in
+      on_error result (inr (checking_left b (by_function does) [] takes v0 gives holds path v count c.0 (all_told words noted) ways c.2 now (let few = c.1 in omega (arith, few)) keeps))
+
+  -- or it was, or there was time
+  pub left_behind : {A E : Type 0} (result : Result A E) (left : ℕ) → IsCoverKept b.checkpoint_interval until path holds now left → (does : Function D) (words : List (Word D)) → IsTrueOf does words recording
+      → OnErr result (StillHolds b (by_function does) [] gives first now)
+  left_behind result left kept does words z =
+      let c = checking does words z in
+      on_error result (inr (left_late b (by_function does) [] takes v0 gives holds path v count c.0 (all_told words noted) ways c.2 now until left c.1 kept))
+
+module _ {D F : Type 0} (called : F → Teller D → Result D RunStop → F → Teller D → Type 0) (b : Builder) (f : F) (gives old : Option (List ℕ) → Type 0) where
+  -- no run was recorded, and the store wasn't used
+  pub still_held : StillHoldsRecorded called b f gives old old
+  still_held = record { real = []; after = f; made = refl; as_body = λ does done. inl (λ text held. held) }
+
+  -- by a recording that began empty
+  pub held_so : {A E : Type 0} (f' : F) (new : Option (List ℕ) → Type 0) (r r' : Answers D) (result : Result A E) → r.answers ≡ [] → r.places ≡ 1 → Records called (limits_of b) f r f' r'
+      → ((does : Function D) (words : List (Word D)) → IsTrueOf does words r' → OnErr result (StillHolds b (by_function does) [] gives old new)) → OnErr result (StillHoldsRecorded called b f gives old new)
+  held_so f' new r r' (Ok a) none one records left = tt
+  held_so f' new r r' (Err e) none one records left = record {
+    real = records.real;
+    after = f';
+    made = records.made;
+    as_body = λ does done.
+        let later = records.stays does ([] ∷ []) (none_is_true does r none one) done in
+        left does later.0 later.1;
+  }

@@ -43,7 +43,7 @@ use Rattle.loom.specs.Runner.Histories.{Log, Share}
 use Rattle.loom.specs.Runner.Run.{Checked, WasCalled}
 use Rattle.loom.specs.Runner.Made.{Made}
 use Rattle.loom.specs.Runner.Recorded.{AreDone, Function, HasMade, HasMadeOne, IsDone, MayHaveMade, ReportsRecorded, Word, by_function, runs_by}
-use Rattle.loom.specs.Runner.Recording.{Answers, EndsRound, GoesOn, HasRun, IsKnownRound, IsOfRun, IsTaken, IsTrueOf, MakesRound}
+use Rattle.loom.specs.Runner.Recording.{Answers, EndsRound, GoesOn, HasRun, IsKnownRun, IsOfRun, IsTaken, IsTrueOf, MakesRound, MakesRun}
 use Rattle.loom.proofs.ModelLemmas.Checking.{IsChecking, checking_start, checking_stops, round_on, round_ends, round_fails}
 use Rattle.loom.proofs.ModelLemmas.Paths.{begins as read_well}
 use Rattle.loom.proofs.RunnerLemmas.Following.{IsFine, later_fine}
@@ -92,32 +92,51 @@ module _ {D F : Type 0} (called : F → Teller D → Result D Stop → F → Tel
   )
   real_made f f' began log told w (Err e) z = tt
 
--- a round that is known stays so where all is the same
-module _ {D V : Type 0} (takes : V → List Choice → D → V → Type 0) (round : Round) (path' : Route) (v' : V) where
-  pub same_known : (limits other : Limits) (keeps keep : Bool) (recording answers : Answers D) (path began : Route) (v w : V) → other ≡ limits → keep ≡ keeps → answers ≡ recording → began ≡ path → w ≡ v
-      → IsKnownRound takes other keep answers began w round path' v' → IsKnownRound takes limits keeps recording path v round path' v'
-  same_known limits other keeps keep recording answers path began v w a b c d e h =
-      subst (λ (l : Limits). IsKnownRound takes l keeps recording path v round path' v') a
-      (subst (λ (k : Bool). IsKnownRound takes other k recording path v round path' v') b
-      (subst (λ (r : Answers D). IsKnownRound takes other keep r path v round path' v') c
-      (subst (λ (p : Route). IsKnownRound takes other keep answers p v round path' v') d
-      (subst (λ (x : V). IsKnownRound takes other keep answers began x round path' v') e h))))
+-- ---- a run
 
--- a round by what was recorded
-module _ {D F V : Type 0} (called : F → Teller D → Result D Stop → F → Teller D → Type 0) (takes : V → List Choice → D → V → Type 0) (limits : Limits) (keeps : Bool) (path : Route) (f : F) (v : V)
-    (old : Answers D) (round : Round) (path' : Route) (f' : F) (v' : V) (new : Answers D) where
-  pub makes_known : f' ≡ f → new ≡ old → IsKnownRound takes limits keeps old path v round path' v' → MakesRound called takes limits keeps path f v old round path' f' v' new
-  makes_known uncalled same known = record {
+-- by what is recorded
+pub known_runs : {D : Type 0} (limits : Limits) (keeps : Bool) (recording : Answers D) (path path' : Route) (known : Option (Ending D))
+    → ((does : Function D) (words : List (Word D)) → IsTrueOf does words recording → IfSome known (λ ending. RunsAlong (runs_by does path.explores limits.max_threads limits.max_steps) path ending path'))
+    → IfSome known (λ ending. HasRun limits path ending path') → IfSome known (IsLocated keeps) → IsSameSearch path path' → IfSome known (λ ending. IsKnownRun limits keeps recording path ending path')
+known_runs limits keeps recording path path' (Some ending) along history located same = record { along = along; history = history; located = located; same = same }
+known_runs limits keeps recording path path' None along history located same = tt
+
+-- it stays so where all is the same
+module _ {D : Type 0} (ending : Ending D) (path' : Route) where
+  pub same_run : (limits other : Limits) (keeps keep : Bool) (recording answers : Answers D) (path began : Route) → other ≡ limits → keep ≡ keeps → answers ≡ recording → began ≡ path
+      → IsKnownRun other keep answers began ending path' → IsKnownRun limits keeps recording path ending path'
+  same_run limits other keeps keep recording answers path began a b c d h =
+      subst (λ (l : Limits). IsKnownRun l keeps recording path ending path') a
+      (subst (λ (k : Bool). IsKnownRun other k recording path ending path') b
+      (subst (λ (r : Answers D). IsKnownRun other keep r path ending path') c
+      (subst (λ (p : Route). IsKnownRun other keep answers p ending path') d h)))
+
+module _ {D F : Type 0} (called : F → Teller D → Result D Stop → F → Teller D → Type 0) (limits : Limits) (keeps : Bool) (path : Route) (f : F) (old : Answers D) (ending : Ending D) (path' : Route) (f' : F)
+    (new : Answers D) where
+  pub runs_known : f' ≡ f → new ≡ old → IsKnownRun limits keeps old path ending path' → MakesRun called limits keeps path f old ending path' f' new
+  runs_known uncalled same known = record {
     real = None;
     made = uncalled;
     stays = λ does words z none. (words, subst (IsTrueOf does words) (sym same) z);
-    known = subst (λ (r : Answers D). IsKnownRound takes limits keeps r path v round path' v') (sym same) known;
+    known = subst (λ (r : Answers D). IsKnownRun limits keeps r path ending path') (sym same) known;
   }
 
   -- and after a run was made of the closure
-  pub makes_real : (m : Made D) → HasMadeOne called limits f m f' → ((does : Function D) (words : List (Word D)) → IsTrueOf does words old → IsDone does m.log.history → (more : List (Word D)) × IsTrueOf does more new)
-      → IsKnownRound takes limits keeps new path v round path' v' → MakesRound called takes limits keeps path f v old round path' f' v' new
-  makes_real m made recorded known = record { real = Some m; made = made; stays = recorded; known = known }
+  pub runs_real : (m : Made D) → HasMadeOne called limits f m f' → ((does : Function D) (words : List (Word D)) → IsTrueOf does words old → IsDone does m.log.history → (more : List (Word D)) × IsTrueOf does more new)
+      → IsKnownRun limits keeps new path ending path' → MakesRun called limits keeps path f old ending path' f' new
+  runs_real m made recorded known = record { real = Some m; made = made; stays = recorded; known = known }
+
+-- and the round that comes of a run
+pub makes_round : {D F V : Type 0} (called : F → Teller D → Result D Stop → F → Teller D → Type 0) (takes : V → List Choice → D → V → Type 0) (limits : Limits) (keeps : Bool) (path : Route) (f : F) (v : V)
+    (old : Answers D) (ending : Ending D) (mid : Route) (round : Round) (path' : Route) (f' : F) (v' : V) (new : Answers D) → MakesRun called limits keeps path f old ending mid f' new
+    → EndsRound takes ending mid v round path' v' → MakesRound called takes limits keeps path f v old round path' f' v' new
+makes_round called takes limits keeps path f v old ending mid round path' f' v' new m t = record {
+  real = m.real;
+  made = m.made;
+  stays = m.stays;
+  known = λ does words z.
+      round_comes takes (runs_by does path.explores limits.max_threads limits.max_steps) keeps path mid m.known.same v v' path' ending round (m.known.along does words z) m.known.located t;
+}
 
 -- ---- errors
 

@@ -21,9 +21,9 @@ use Rattle.loom.specs.declared.runner.parallel.round.Turn.{Turn}
 use Rattle.loom.specs.Model.Fresh.{machine}
 use Rattle.loom.specs.Model.Settings.{search_of}
 use Rattle.loom.specs.Runner.Parallel.{FailsSo, HasGoneOn}
-use Rattle.loom.specs.Runner.Workers.{AreHandedOut, AreWorkedOn, TakesBack, TakesTurn, IsAtMost, AreAtMost, bases, HasRoom, IsOut, AreOut, HasTaken, IsTaken}
+use Rattle.loom.specs.Runner.Workers.{AreHandedOut, AreWorkedOn, EachMayBeWorkedOn, TakesBack, TakesTurn, IsAtMost, AreAtMost, bases, HasRoom, IsOut, AreOut, HasTaken, IsTaken}
 use Rattle.loom_engine.proofs.Parts.Giving.{bases_once}
-use Rattle.loom.proofs.RunnerLemmas.Workers.{outs, bases_apart, is_machine, out_front, member_front, member_last, once_front, at_most_front, still_out, still_lost, same_base, HasLost, lost_out, lost_fails, gone_nowhere, gone_further, one_back}
+use Rattle.loom.proofs.RunnerLemmas.Workers.{may_each, outs, bases_apart, is_machine, out_front, member_front, member_last, once_front, at_most_front, still_out, still_lost, same_base, HasLost, lost_out, lost_fails, gone_nowhere, gone_further, one_back}
 
 module _ {G V D : Type 0} (takes : V → List Choice → D → V → Type 0) (is_new : V → Type 0) (joins : G → V → G → Type 0) (b : Builder) (tree : Tree D) (made : List (List Choice)) (old : G) where
   pub record IsTaking (parts : Parts) (mid : G) (turn : Turn) (rest : List (Done V)) : Type 0 where
@@ -169,11 +169,16 @@ pub fewer_fit : (few count most whole : ℕ) → few ≤ count → count * most 
 fewer_fit few count most whole h l = let t = mul-le-mul_right most h in omega (arith, t, l)
 
 module _ {G V D : Type 0} (takes : V → List Choice → D → V → Type 0) (is_new : V → Type 0) (joins : G → V → G → Type 0) (b : Builder) (tree : Tree D) (sound : IsRunTree tree) where
-  pub turn_taken : (before after : Parts) (old later : G) (jobs : List (Job V)) (list : List (Done V)) (answer : Result Turn CheckError) → AreHandedOut is_new before.list.items 0 jobs
-      → AreWorkedOn takes b tree jobs list → IfOk answer (TakesBack takes is_new joins before after old later list) → IfOk answer (TakesTurn takes is_new joins b tree before after old later)
-  turn_taken before after old later jobs list (Ok turn) h w t = λ made at.
+  -- whether a run of each was made or not
+  pub turn_may_be_taken : (before after : Parts) (old later : G) (jobs : List (Job V)) (list : List (Done V)) (turn : Turn) → AreHandedOut is_new before.list.items 0 jobs
+      → EachMayBeWorkedOn takes b tree jobs list → TakesBack takes is_new joins before after old later list turn → TakesTurn takes is_new joins b tree before after old later turn
+  turn_may_be_taken before after old later jobs list turn h w t = λ made at.
       t b tree made sound at (outs takes is_new b tree before.list.items 0 jobs list h w)
       (bases_apart takes is_new b tree before.list.items (bases_once (machine (search_of b) tree) made before.list.items before.trunk.items (is_machine b tree sound) at) 0 jobs list h w)
+
+  pub turn_taken : (before after : Parts) (old later : G) (jobs : List (Job V)) (list : List (Done V)) (answer : Result Turn CheckError) → AreHandedOut is_new before.list.items 0 jobs
+      → AreWorkedOn takes b tree jobs list → IfOk answer (TakesBack takes is_new joins before after old later list) → IfOk answer (TakesTurn takes is_new joins b tree before after old later)
+  turn_taken before after old later jobs list (Ok turn) h w t = turn_may_be_taken before after old later jobs list turn h (may_each takes b tree jobs list w) t
   turn_taken before after old later jobs list (Err e) h w t = tt
 
 pub turn_within : {V : Type 0} (most count : ℕ) (jobs : ℕ) (list : List (Done V)) (answer : Result Turn CheckError) → AreAtMost most list → length list ≡ jobs → jobs ≤ count

@@ -43,7 +43,7 @@ use Rattle.loom.specs.Model.Fresh.{machine}
 use Rattle.loom.specs.Model.Parts.{GivenBack, HasGiven, HasMade, HasLed, Works, HasFailed as HasFailedIn}
 use Rattle.loom.specs.Model.Settings.{search_of}
 use Rattle.loom.specs.Runner.Parallel.{AreJoined, none, one_more, FailsSo, HasGoneOn}
-use Rattle.loom.specs.Runner.Workers.{AreHandedOut, CameTo, IsWorkedOn, AreWorkedOn, IsAtMost, AreAtMost, bases, IsOut, AreOut}
+use Rattle.loom.specs.Runner.Workers.{AreHandedOut, CameTo, IsWorkedOn, AreWorkedOn, MayBeWorkedOn, EachMayBeWorkedOn, IsAtMost, AreAtMost, bases, IsOut, AreOut}
 
 -- ---- handed out
 
@@ -66,12 +66,20 @@ worked_each takes b tree (j ∷ jobs) (x ∷ list) e f = (
   worked_each takes b tree jobs list (omega arith) (λ i d l. f (suc i) d (omega (arith, l))),
 )
 
+-- where each was worked on each may have been
+pub may_each : {V D : Type 0} (takes : V → List Choice → D → V → Type 0) (b : Builder) (tree : Tree D) (jobs : List (Job V)) (list : List (Done V)) → AreWorkedOn takes b tree jobs list
+    → EachMayBeWorkedOn takes b tree jobs list
+may_each takes b tree [] [] w = tt
+may_each takes b tree [] (x ∷ list) w = absurd w
+may_each takes b tree (j ∷ jobs) [] w = absurd w
+may_each takes b tree (j ∷ jobs) (x ∷ list) w = ((w.0.0, inr w.0.1), may_each takes b tree jobs list w.1)
+
 pub at_most_each : {V : Type 0} (most : ℕ) (list : List (Done V)) → ((i : ℕ) (d : Done V) → i < length list → IsAtMost most (slice_index_or list i d).worked) → AreAtMost most list
 at_most_each most [] f = tt
 at_most_each most (x ∷ list) f = (f 0 x (omega arith), at_most_each most list (λ i d l. f (suc i) d (omega (arith, l))))
 
 module _ {V D : Type 0} (takes : V → List Choice → D → V → Type 0) (is_new : V → Type 0) (b : Builder) (tree : Tree D) (all : List Kept) where
-  pub outs : (number : ℕ) (jobs : List (Job V)) (list : List (Done V)) → AreHandedOut is_new all number jobs → AreWorkedOn takes b tree jobs list → AreOut takes is_new b tree all list
+  pub outs : (number : ℕ) (jobs : List (Job V)) (list : List (Done V)) → AreHandedOut is_new all number jobs → EachMayBeWorkedOn takes b tree jobs list → AreOut takes is_new b tree all list
   outs number [] [] h w = tt
   outs number [] (x ∷ list) h w = absurd w
   outs number (j ∷ jobs) [] h w = absurd w
@@ -88,7 +96,7 @@ module _ {V D : Type 0} (takes : V → List Choice → D → V → Type 0) (is_n
     stands : slice_get all place ≡ Some part
     same : base ≡ part.base.items
 
-  based : (number : ℕ) (jobs : List (Job V)) (list : List (Done V)) → AreHandedOut is_new all number jobs → AreWorkedOn takes b tree jobs list → (x : List Choice) → Member x (bases list) → HasBase number x
+  based : (number : ℕ) (jobs : List (Job V)) (list : List (Done V)) → AreHandedOut is_new all number jobs → EachMayBeWorkedOn takes b tree jobs list → (x : List Choice) → Member x (bases list) → HasBase number x
   based number [] [] h w x i = absurd i
   based number [] (y ∷ list) h w x i = absurd w
   based number (j ∷ jobs) [] h w x i = absurd w
@@ -117,7 +125,7 @@ apart (q ∷ xs) later (suc i) zero x y h l at there e = absurd (omega arith)
 apart (q ∷ xs) later (suc i) (suc j) x y h l at there e = apart xs (part_of q ∷ later) i j x y h (omega arith) at there e
 
 module _ {V D : Type 0} (takes : V → List Choice → D → V → Type 0) (is_new : V → Type 0) (b : Builder) (tree : Tree D) (all : List Kept) (once : IsOnce (bases_of (views all))) where
-  pub bases_apart : (number : ℕ) (jobs : List (Job V)) (list : List (Done V)) → AreHandedOut is_new all number jobs → AreWorkedOn takes b tree jobs list → IsOnce (bases list)
+  pub bases_apart : (number : ℕ) (jobs : List (Job V)) (list : List (Done V)) → AreHandedOut is_new all number jobs → EachMayBeWorkedOn takes b tree jobs list → IsOnce (bases list)
   bases_apart number [] [] h w = tt
   bases_apart number [] (x ∷ list) h w = absurd w
   bases_apart number (j ∷ jobs) [] h w = absurd w
@@ -181,10 +189,19 @@ module _ {V D : Type 0} (takes : V → List Choice → D → V → Type 0) (is_n
     pub based : lost.part.base.items ≡ part.base.items
     pub failed : IsResting (machine (search_of b) tree) (stored copy.path.nodes) → (begun ended : V) × (count : ℕ) × HasFailedIn takes begun ended b tree copy count lost.failure.kind lost.choices.items
 
+  -- what it came to, where runs of it were made
+  pub came_so : (x : Done V) (job : Job V) (worked : Worked) → (worked ≡ Made 0 → ⊥) → x.worked ≡ Ok worked → MayBeWorkedOn takes b tree job x → CameTo takes b tree job x (Ok worked)
+  came_so x job worked some came w = elim w.1 [
+    | inl e ↦ absurd (some (same e))
+    | inr so ↦ subst (λ (y : Result Worked CheckError). CameTo takes b tree job x y) came so
+  ]
+    where
+      same : x.worked ≡ Ok (Made 0) → worked ≡ Made 0
+      same e = cc (came, e)
+
   pub lost_out : (all : List Kept) (x : Done V) (count : ℕ) (lost : Lost) → IsOut takes is_new b tree all x → x.worked ≡ Ok (Failed count lost.failure lost.choices) → lost.part ≡ x.part → HasLost all lost
   lost_out all x count lost o came same =
-      let w = o.worked in
-      let works = subst (λ (y : Result Worked CheckError). CameTo takes b tree o.job x y) came w.1 in
+      let works = came_so x o.job (Failed count lost.failure lost.choices) (λ e. cc e) came o.worked in
       record {
         number = o.number;
         part = o.part;
@@ -314,8 +331,11 @@ module _ {G V D : Type 0} (takes : V → List Choice → D → V → Type 0) (is
   pub one_back : (old later : G) (before after : Parts) (x : Done V) (count : ℕ) (answer : Bool) → IsAt (machine (search_of b) tree) made before → IsOut takes is_new b tree before.list.items x
       → x.worked ≡ Ok (Made count) → (count ≡ 0 → ⊥) → GivesBack before x.part after answer → joins old x.visitor later → HasGoneOn takes is_new joins b tree made old later after count
   one_back old later before after x count answer at o came some back joined =
-      go ((subst (λ (y : Result Worked CheckError). CameTo takes b tree o.job x y) came (let w = o.worked in w.1)).1) answer back
+      go ((came_so takes is_new b tree x o.job (Made count) (λ e. some (none_made e)) came o.worked).1) answer back
     where
+      none_made : Made count ≡ Made 0 → count ≡ 0
+      none_made e = cc e
+
       path : stored o.job.part.path.nodes ≡ stored o.part.path.nodes
       path = let c = o.copied in ap (λ r. stored r.nodes) c.1
 

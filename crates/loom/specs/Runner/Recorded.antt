@@ -1,7 +1,7 @@
 -- What a check of recorded closures promises. A closure is a function of its replies if what it hands over rests on nothing but what
 -- its thread was told. For each such function that does what the threads did in the runs that the check has made of the closure, the
 -- report is that of a check of the body which that function is (`ReportsRecorded`). So it is of a check that remembers states
--- (`CoversRecorded`).
+-- (`CoversRecorded`), and of one by several workers (`FindsRecorded`).
 use Rattle.std.specs.Prelude.{ℕ, ◌≡◌, ⊤, Bool, List, [], ◌∷◌, All, Option, Some, None, option_map, IfSome, Result, Ok, Err, slice_get, slice_set}
 use Rattle.std.specs.declared.time.Duration.{Duration}
 use Rattle.loom_objects.specs.Operation.Labelled.{Op}
@@ -23,13 +23,20 @@ use Rattle.loom.specs.declared.model.builder.Builder.{Builder}
 use Rattle.loom.specs.declared.model.report.Report.{Report}
 use Rattle.loom.specs.declared.model.cover.Covered.{Covered}
 use Rattle.loom.specs.Model.Check.{Reports}
+use Rattle.loom.specs.Model.CoverStores.{StillHolds}
 use Rattle.loom.specs.Model.Covered.{Covering}
+use Rattle.loom.specs.Model.Parts.{Works}
 use Rattle.loom.specs.Model.Settings.{explores}
+use Rattle.loom.specs.declared.model.parts.Worked.{Worked}
+use Rattle.loom_engine.specs.declared.rt.parts.Part.{Part}
+use Rattle.loom_engine.specs.declared.rt.parts.Parts.{Parts}
 use Rattle.loom.specs.declared.runner.stop.Stop.{Stop}
 use Rattle.loom.specs.declared.runner.history.event.Event.{Event}
+use Rattle.loom.specs.declared.runner.parallel.Found.{Found}
 use Rattle.loom.specs.Runner.Check.{limits_of}
 use Rattle.loom.specs.Runner.Handle.{Teller, newcomer}
 use Rattle.loom.specs.Runner.Made.{Made, Settled}
+use Rattle.loom.specs.Runner.Parallel.{Finds}
 
 -- ---- a closure as a function of its replies
 
@@ -147,6 +154,25 @@ pub record CoversRecorded {D F V : Type 0} (called : F → Teller D → Result D
   -- each function that does what the threads did in these is covered as a body
   pub as_body : (does : Function D) → AreDone does real → Covering takes v v' b (by_function does) [] gives holds answered covered
 
+-- After an error of such a check a store may hold what it held before, or a text of a path to which the check has come.
+pub record StillHoldsRecorded {D F : Type 0} (called : F → Teller D → Result D Stop → F → Teller D → Type 0) (b : Builder) (f : F) (gives old new : Option (List ℕ) → Type 0) : Type 0 where
+  -- the runs that were made of the closure
+  pub real : List (Made D)
+  pub after : F
+  pub made : HasMade called (limits_of b) f real after
+  -- the path is one of a check of each function that does what the threads did in these
+  pub as_body : (does : Function D) → AreDone does real → StillHolds b (by_function does) [] gives old new
+
+-- What it came to that a part of a search of this closure was worked on, and what the visitor was given.
+pub record WorksRecorded {D F V : Type 0} (called : F → Teller D → Result D Stop → F → Teller D → Type 0) (takes : V → List Choice → D → V → Type 0) (b : Builder) (f : F) (v v' : V) (part later : Part)
+    (worked : Worked) : Type 0 where
+  -- the runs that were made of the closure
+  pub real : List (Made D)
+  pub after : F
+  pub made : HasMade called (limits_of b) f real after
+  -- all runs are those of each function that does what the threads did in these
+  pub as_body : (does : Function D) → AreDone does real → Works takes v v' b (runs_by does (explores b) b.max_threads b.max_steps) part later worked
+
 -- What a report says of a check that has recorded this closure, and of what the visitor was given: where the store gave what it may
 -- give, and holds what it may hold, and where the clock has answered so.
 pub record ReportsRecorded {D F V : Type 0} (called : F → Teller D → Result D Stop → F → Teller D → Type 0) (takes : V → List Choice → D → V → Type 0) (b : Builder) (f : F) (v v' : V)
@@ -157,3 +183,14 @@ pub record ReportsRecorded {D F V : Type 0} (called : F → Teller D → Result 
   pub made : HasMade called (limits_of b) f real after
   -- all runs are those of each function that does what the threads did in these
   pub as_body : (does : Function D) → AreDone does real → Reports takes v v' b (runs_by does (explores b) b.max_threads b.max_steps) gives holds answered report
+
+-- What several workers found of this closure, from one list of parts on, up to another, and of what the visitors were given that were
+-- joined: where the clock has answered so.
+pub record FindsRecorded {D F G V : Type 0} (called : F → Teller D → Result D Stop → F → Teller D → Type 0) (takes : V → List Choice → D → V → Type 0) (is_new : V → Type 0) (joins : G → V → G → Type 0)
+    (b : Builder) (f : F) (answered : Duration → Type 0) (before later : Parts) (old new : G) (found : Found) : Type 0 where
+  -- the runs that were made of the closure
+  pub real : List (Made D)
+  pub after : F
+  pub made : HasMade called (limits_of b) f real after
+  -- all runs are those of each function that does what the threads did in these
+  pub as_body : (does : Function D) → AreDone does real → Finds takes is_new joins b (runs_by does (explores b) b.max_threads b.max_steps) answered before later old new found

@@ -10,10 +10,12 @@ use Rattle.loom_objects.specs.declared.operation.Turn.TheVariants as turn
 use Rattle.loom_engine.specs.Runs.Body.{with_child}
 use Rattle.loom_engine.specs.declared.rt.states.State.{State as Kept}
 use Rattle.loom_engine.specs.Covering.Kept.{Noted}
-use Rattle.loom_engine.specs.Path.Route.{Route, Steps, at_rest, chosen}
+use Rattle.loom_engine.specs.Path.Route.{IsSameSearch, Route, Steps, at_rest, chosen}
+use Rattle.loom_engine.specs.Parts.Openings.{StepsAbove}
 use Rattle.loom_objects.specs.declared.choice.Choice.{Choice}
 use Rattle.loom_explain.specs.declared.event.Event.{Event}
 use Rattle.loom.specs.Explain.Story.{Story}
+use Rattle.loom.specs.Model.Run.{IsLocated, RunsAlong}
 use Rattle.loom.specs.Model.Turns.{EndsWith}
 use Rattle.loom.specs.declared.model.run.Ending.{Ending}
 use Rattle.loom.specs.declared.model.run.Ending.TheVariants.{Ended, Failed}
@@ -136,6 +138,20 @@ module _ {D V : Type 0} (takes : V → List Choice → D → V → Type 0) where
   EndsRound (Failed failure) path v Next path' v' = ⊥
   EndsRound (Failed failure) path v Last path' v' = ⊥
 
+  -- and so above a floor
+  pub record IsTakenAbove (floor : ℕ) (value : D) (path : Route) (v : V) (on : Bool) (path' : Route) (v' : V) : Type 0 where
+    pub took : takes v (chosen path) value v'
+    pub steps : StepsAbove floor path.nodes on path'.nodes
+    pub rests : path' ≡ at_rest path.search path.explores path'.nodes
+
+  abbrev pub EndsAbove : ℕ → Ending D → Route → V → Round → Route → V → Type 0
+  EndsAbove floor (Ended value) path v Next path' v' = IsTakenAbove floor value path v true path' v'
+  EndsAbove floor (Ended value) path v Last path' v' = IsTakenAbove floor value path v false path' v'
+  EndsAbove floor (Ended value) path v (round.Failed failure choices) path' v' = ⊥
+  EndsAbove floor (Failed failure) path v (round.Failed found choices) path' v' = (found ≡ failure) × (choices.items ≡ chosen path) × (path' ≡ path) × (v' ≡ v)
+  EndsAbove floor (Failed failure) path v Next path' v' = ⊥
+  EndsAbove floor (Failed failure) path v Last path' v' = ⊥
+
 -- ---- histories
 
 module _ {D : Type 0} where
@@ -164,6 +180,24 @@ module _ {D : Type 0} where
 -- and the search goes on from there to the other path
 abbrev pub GoesOn : (D : Type 0) → Limits → Route → Route → Type 0
 GoesOn D limits path next = (r : Run D) × (r.began ≡ path) × HasEnded limits r × GoesTo r.now.route (Some next)
+
+-- ---- one run
+
+-- the run along the path is that of each function of which the recording is true, and one of the machine
+pub record IsKnownRun {D : Type 0} (limits : Limits) (keeps : Bool) (recording : Answers D) (path : Route) (ending : Ending D) (path' : Route) : Type 0 where
+  pub along : (does : Function D) (words : List (Word D)) → IsTrueOf does words recording → RunsAlong (runs_by does path.explores limits.max_threads limits.max_steps) path ending path'
+  pub history : HasRun limits path ending path'
+  pub located : IsLocated keeps ending
+  pub same : IsSameSearch path path'
+
+-- A run: one was made of the closure, or none was; the recording stays true of each function that does what the threads did there; and by
+-- what is recorded then it is this run.
+pub record MakesRun {D F : Type 0} (called : F → Teller D → Result D Stop → F → Teller D → Type 0) (limits : Limits) (keeps : Bool) (path : Route) (f : F) (old : Answers D) (ending : Ending D) (path' : Route)
+    (f' : F) (new : Answers D) : Type 0 where
+  pub real : Option (Made D)
+  pub made : MayHaveMade called limits f real f'
+  pub stays : (does : Function D) (words : List (Word D)) → IsTrueOf does words old → IfSome real (λ m. IsDone does m.log.history) → (later : List (Word D)) × IsTrueOf does later new
+  pub known : IsKnownRun limits keeps new path ending path'
 
 -- ---- rounds
 

@@ -47,6 +47,17 @@ module _ {V D : Type 0} (takes : V → List Choice → D → V → Type 0) (b : 
   AreWorkedOn (job ∷ jobs) [] = ⊥
   AreWorkedOn (job ∷ jobs) (done ∷ later) = IsWorkedOn job done × AreWorkedOn jobs later
 
+  -- or no run of it was made, though some were left
+  abbrev pub MayBeWorkedOn : Job V → Done V → Type 0
+  MayBeWorkedOn job done = (done.part.base.items ≡ job.part.base.items) × ((done.worked ≡ Ok (Made 0)) ⊎ CameTo job done done.worked)
+
+  -- each of them, or not
+  abbrev pub EachMayBeWorkedOn : List (Job V) → List (Done V) → Type 0
+  EachMayBeWorkedOn [] [] = Unit {0}
+  EachMayBeWorkedOn [] (done ∷ later) = ⊥
+  EachMayBeWorkedOn (job ∷ jobs) [] = ⊥
+  EachMayBeWorkedOn (job ∷ jobs) (done ∷ later) = MayBeWorkedOn job done × EachMayBeWorkedOn jobs later
+
 -- none made more runs than this
 abbrev pub IsAtMost : ℕ → Result Worked CheckError → Type 0
 IsAtMost most (Ok (Made count)) = count ≤ most
@@ -88,7 +99,7 @@ abbrev pub bases : {V : Type 0} → List (Done V) → List (List Choice)
 bases list = map (λ (done : Done _). done.part.base.items) list
 
 module _ {V D : Type 0} (takes : V → List Choice → D → V → Type 0) (is_new : V → Type 0) (b : Builder) (tree : Tree D) where
-  -- a part of the list was worked on, as a copy, by a visitor that was given no run before
+  -- a part of the list was worked on, as a copy, by a visitor that was given no run before, if a run of it was made
   pub record IsOut (list : List Part) (done : Done V) : Type 0 where
     pub number : ℕ
     pub part : Part
@@ -96,7 +107,7 @@ module _ {V D : Type 0} (takes : V → List Choice → D → V → Type 0) (is_n
     pub stands : slice_get list number ≡ Some part
     pub copied : IsCopy part job.part
     pub unused : is_new job.visitor
-    pub worked : IsWorkedOn takes b tree job done
+    pub worked : MayBeWorkedOn takes b tree job done
 
   abbrev pub AreOut : List Part → List (Done V) → Type 0
   AreOut list [] = Unit {0}

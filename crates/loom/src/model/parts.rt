@@ -1,5 +1,5 @@
 //! Checks of a part of a search, some runs at a time (own).
-ghost use Rattle.std.specs.Prelude.{◌≡◌, ◌≢◌, ◌≤◌, ◌<◌, ◌+◌, ◌^◌, ◌⊎◌, Err, IfOk, IfErr, OnErr, false, length};
+ghost use Rattle.std.specs.Prelude.{◌≡◌, ◌≢◌, ◌≤◌, ◌<◌, ◌+◌, ◌^◌, ◌⊎◌, Err, IfOk, IfErr, IfSome, OnErr, false, length};
 ghost use Rattle.loom_engine.specs.Path.Route.{IsAtStart, at_rest};
 ghost use Rattle.loom_engine.specs.Runs.Body.{runs as runs_of};
 ghost use Rattle.loom.specs.Model.Parts.{ComesToAbove, CountsRuns, IsWithin, Works};
@@ -9,7 +9,6 @@ ghost use Rattle.loom.specs.Model.Settings.{explores, search_of, tested};
 use crate::model::builder::Builder;
 use crate::model::clock::Clock;
 use crate::model::error::CheckError;
-use crate::model::paths::path_search;
 use crate::model::receiver::{Listed, Receiver};
 use crate::model::rounds::Round;
 use crate::model::run::Room;
@@ -55,7 +54,7 @@ const RUNS_TO_A_LOOK: u64 = 16;
 
 impl Slice {
     /// Whether after so many runs no further one is made. The clock is asked now and then, where a time is set.
-    fn is_used_up<C: Clock>(&self, runs: u64, clock: &mut C) -> bool
+    pub(crate) fn is_used_up<C: Clock>(&self, runs: u64, clock: &mut C) -> bool
         ensures { result ≡ false → runs < self.now.runs }
     {
         if runs >= self.runs {
@@ -97,13 +96,7 @@ impl Builder {
         ensures errors { IfErr result (λ e. (e ≡ CheckError.Memory) ⊎ (((tested self.now ≡ Err e) ⊎ IsOtherPart self.now part.old.path e) × (visitor.new ≡ visitor.old))) }
     {
         self.test()?;
-        let search = path_search(
-            self.reduce,
-            self.preemption_bound,
-            self.max_branches,
-            self.expect_explicit_explore,
-        );
-        let path = part.path.taken_up(alloc, search)?;
+        let path = self.path_of(alloc, part)?;
         if part.is_done {
             return Ok(Worked::Made { runs: 0 });
         }
@@ -117,6 +110,16 @@ impl Builder {
         let worked = runs.work_on(alloc, &mut room, visitor, part, path, slice, clock);
         room.leave();
         worked
+    }
+
+    /// The path at which the part begins again. `OtherSettings` and the like where it is of a search with other settings.
+    pub(crate) fn path_of(&self, alloc: Global, part: &Part) -> Result<Path, CheckError>
+        requires branches { self.now.max_branches ≤ 1000000 }
+        requires bound { IfSome self.now.preemption_bound (λ bound. bound ≤ 255) }
+        ensures rests { IfOk result (λ path. path ≡ at_rest (search_of self.now) (explores self.now) part.now.path.nodes) }
+        ensures errors { IfErr result (λ e. (e ≡ CheckError.Memory) ⊎ IsOtherPart self.now part.now.path e) }
+    {
+        Ok(part.path.taken_up(alloc, self.search_settings())?)
     }
 }
 
@@ -173,7 +176,7 @@ impl<'a, B: Body, L: Log> BodyRuns<'a, B, L> {
 }
 
 /// So many more runs of the part were made, which is left with this path, and more of its runs are left or not.
-fn leave(part: &mut Part, path: Path, runs: u64, is_done: bool)
+pub(crate) fn leave(part: &mut Part, path: Path, runs: u64, is_done: bool)
     ensures base { part.new.base ≡ part.old.base }
     ensures path { part.new.path ≡ path }
     ensures runs { part.old.runs + runs < 2 ^ 64 → part.new.runs ≡ part.old.runs + runs }

@@ -164,7 +164,14 @@ where
 }
 
 /// Tells the log how far the check has come, where so many runs were made since it was told last. Answers when that was.
-fn tell<L: Log>(log: &L, every: usize, runs: u64, told: u64, parts: &Parts, workers: usize) -> u64 {
+pub(crate) fn tell<L: Log>(
+    log: &L,
+    every: usize,
+    runs: u64,
+    told: u64,
+    parts: &Parts,
+    workers: usize,
+) -> u64 {
     if runs.saturating_sub(told) < every as u64 {
         return told;
     }

@@ -9,9 +9,11 @@ ghost use Rattle.loom.specs.Runner.Refusals.{CountsFaults};
 
 mod adding;
 mod covering;
+mod parts;
 mod playing;
 pub(crate) mod recording;
 mod rounds;
+mod workers;
 
 use crate::checkpoint::store::CheckpointStore;
 use crate::model::builder::Builder;
@@ -27,9 +29,11 @@ use crate::runner::stop::Stop;
 use crate::runner::watcher::Watcher;
 pub use covering::cover_recorded;
 use log::Log;
+pub use parts::check_part_recorded;
 use std::alloc::Global;
 use std::sync::Wait;
 use std::thread::Threads;
+pub use workers::check_parallel_recorded;
 
 /// A check of a closure each of whose threads does what rests on nothing but the replies to it (own). What `check_with` does, by fewer
 /// threads of the host: what a thread hands over is recorded, and where all that a run comes to is, the run is made of that. So the

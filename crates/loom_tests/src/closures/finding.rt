@@ -3,11 +3,17 @@ use crate::closures::forms_in_children::{self, Form};
 use crate::closures::{carried, changes, ends, forms, forms_of_values, holds, turns};
 use loom::model::Report;
 use loom::model::builder::Builder;
+use loom::model::cover::{Covered, MOST_STATES};
+use loom::model::parts::{Slice, Worked};
 use loom::model::visitor::Visitor;
-use loom::runner::{Handle, Host, RunnerError, Stop, check, check_recorded};
+use loom::runner::{
+    Found as Came, Handle, Host, RunnerError, Stop, Visitors, Workers, check,
+    check_parallel_recorded, check_part_recorded, check_recorded, cover_recorded,
+};
 use loom::{Choice, FailureKind, MemoryStore, NoClock};
 use std::alloc::{AllocError, Global};
 use std::process::Abort;
+use std::rt::Clock;
 use std::sync::Arc;
 use std::sync::atomic::{AtomicU64, Ordering};
 use std::test::Fail;
@@ -166,10 +172,43 @@ impl Visitor<u64> for Keeper {
     }
 }
 
+/// Keeps what the keepers of parts have kept.
+impl Visitors<Keeper> for Keeper {
+    ghost is_new = { λ keeper. Unit {0} };
+
+    ghost joins = { λ old keeper new. Unit {0} };
+
+    fn make(&self) -> Result<Keeper, AllocError> {
+        Ok(Keeper {
+            alloc: self.alloc,
+            runs: Vec::new(self.alloc),
+        })
+    }
+
+    fn join(&mut self, keeper: Keeper) -> Result<(), AllocError> {
+        for run in keeper.runs {
+            self.runs.push(run)?;
+        }
+        Ok(())
+    }
+}
+
+/// A part is worked on for a run at a time.
+const ONE_RUN: Slice = Slice {
+    runs: 1,
+    until: None,
+};
+
+/// Two workers.
+const TWO: Workers = Workers {
+    count: 2,
+    slice: ONE_RUN,
+};
+
 /// What a check has found.
 #[derive(Drop)]
 pub(super) struct Found {
-    report: Result<Report, RunnerError>,
+    pub(super) report: Result<Report, RunnerError>,
     /// The runs that the visitor was given.
     pub(super) runs: Vec<Run>,
     /// What the closures have counted.
@@ -180,7 +219,7 @@ pub(super) struct Found {
 
 impl Found {
     /// Whether the check made so many runs, and is complete.
-    fn completes(&self, count: u64) -> bool {
+    pub(super) fn completes(&self, count: u64) -> bool {
         matches!(&self.report, Ok(Report::Complete { runs }) if *runs == count)
     }
 
@@ -223,11 +262,32 @@ impl Found {
         false
     }
 
-    /// Whether the checks have the same report and were given the same runs, and this one has called main more seldom.
+    /// Whether a run failed by this kind.
+    pub(super) fn fails_by(&self, kind: FailureKind) -> bool {
+        match &self.report {
+            Ok(Report::Failed { failure, .. }) => failure.kind == kind,
+            _ => false,
+        }
+    }
+
+    /// Whether the checks were given the same runs, in whatever order, and this one has called main more seldom.
+    pub(super) fn has_the_runs_with_fewer_calls(&self, other: &Found) -> bool {
+        for run in &other.runs {
+            if !self.runs.contains(run) {
+                return false;
+            }
+        }
+        self.runs.len() == other.runs.len() && self.calls < other.calls
+    }
+
+    /// Whether the checks have the same report and were given the same runs.
+    pub(super) fn is_like(&self, other: &Found) -> bool {
+        self.report == other.report && self.runs.as_slice() == other.runs.as_slice()
+    }
+
+    /// Whether this one has called main more seldom besides.
     pub(super) fn is_like_with_fewer_calls(&self, other: &Found) -> bool {
-        self.report == other.report
-            && self.runs.as_slice() == other.runs.as_slice()
-            && self.calls < other.calls
+        self.is_like(other) && self.calls < other.calls
     }
 
     /// Whether the check has come to this.
@@ -318,6 +378,186 @@ pub(super) fn find_recorded<R: Host>(
         counted: counter.load(Ordering::SeqCst),
         calls,
     })
+}
+
+/// A check of main by these settings that remembers states. Of what it found this is what other checks find too.
+pub(super) fn find_covered<R: Host>(
+    rt: &R,
+    builder: &Builder,
+    main: Main,
+) -> Result<Found, AllocError> {
+    let alloc: Global = rt.alloc();
+    let counter = Arc::new(alloc, AtomicU64::new(0))?;
+    let mut keeper = Keeper {
+        alloc,
+        runs: Vec::new(alloc),
+    };
+    let mut calls = 0u64;
+    let covered = cover_recorded(
+        rt,
+        alloc,
+        builder,
+        |handle: &mut Handle<u64, R>| {
+            calls = calls.wrapping_add(1);
+            main.run(handle, &counter, calls)
+        },
+        &mut keeper,
+        &mut NoClock,
+        &mut None::<MemoryStore>,
+        MOST_STATES,
+        &None::<HostRuntime>,
+    );
+    let Keeper { alloc: _, runs } = keeper;
+    Ok(Found {
+        report: reported(covered),
+        runs,
+        counted: counter.load(Ordering::SeqCst),
+        calls,
+    })
+}
+
+/// A check of main by these settings by two workers, who make a run at a time of what main's closures answer.
+pub(super) fn find_by_workers<R: Host + Clock + Sync>(
+    rt: &R,
+    builder: &Builder,
+    main: Main,
+) -> Result<Found, AllocError> {
+    let alloc: Global = rt.alloc();
+    let counter = Arc::new(alloc, AtomicU64::new(0))?;
+    let mut keeper = Keeper {
+        alloc,
+        runs: Vec::new(alloc),
+    };
+    let mut calls = 0u64;
+    let came = match builder.parts(alloc) {
+        Ok(mut parts) => check_parallel_recorded(
+            rt,
+            alloc,
+            builder,
+            |handle: &mut Handle<u64, R>| {
+                calls = calls.wrapping_add(1);
+                main.run(handle, &counter, calls)
+            },
+            TWO,
+            &mut parts,
+            &mut keeper,
+            &mut NoClock,
+            &None::<HostRuntime>,
+        ),
+        Err(error) => Err(RunnerError::from(error)),
+    };
+    let Keeper { alloc: _, runs } = keeper;
+    Ok(Found {
+        report: come_to(came),
+        runs,
+        counted: counter.load(Ordering::SeqCst),
+        calls,
+    })
+}
+
+/// What several workers found, as a report. None of these tests has a limit.
+fn come_to(came: Result<Came, RunnerError>) -> Result<Report, RunnerError> {
+    match came? {
+        Came::Complete { runs } => Ok(Report::Complete { runs }),
+        Came::Failed {
+            runs,
+            failure,
+            choices,
+        } => Ok(Report::Failed {
+            runs,
+            failure,
+            choices,
+        }),
+        Came::Stopped { .. } => Err(RunnerError::NotSettled),
+    }
+}
+
+/// A check of main by these settings as one part, on which it works a run at a time. What main's closures answer is recorded anew for each.
+pub(super) fn find_in_slices<R: Host>(
+    rt: &R,
+    builder: &Builder,
+    main: Main,
+) -> Result<Found, AllocError> {
+    let alloc: Global = rt.alloc();
+    let counter = Arc::new(alloc, AtomicU64::new(0))?;
+    let mut keeper = Keeper {
+        alloc,
+        runs: Vec::new(alloc),
+    };
+    let mut calls = 0u64;
+    let report = work_in_slices(rt, builder, main, &counter, &mut calls, &mut keeper);
+    let Keeper { alloc: _, runs } = keeper;
+    Ok(Found {
+        report,
+        runs,
+        counted: counter.load(Ordering::SeqCst),
+        calls,
+    })
+}
+
+/// Works on the whole search as one part, a run at a time, of which there are a thousand at most.
+fn work_in_slices<R: Host>(
+    rt: &R,
+    builder: &Builder,
+    main: Main,
+    counter: &Counter,
+    calls: &mut u64,
+    keeper: &mut Keeper,
+) -> Result<Report, RunnerError> {
+    let parts = builder.parts(rt.alloc())?;
+    let Some(mut part) = parts.take(rt.alloc(), 0)? else {
+        return Err(RunnerError::NotSettled);
+    };
+    for _ in 0..1000 {
+        if part.is_done {
+            return Ok(Report::Complete { runs: part.runs });
+        }
+        let worked = check_part_recorded(
+            rt,
+            rt.alloc(),
+            builder,
+            |handle: &mut Handle<u64, R>| {
+                *calls = calls.wrapping_add(1);
+                main.run(handle, counter, *calls)
+            },
+            &mut part,
+            ONE_RUN,
+            keeper,
+            &mut NoClock,
+            &None::<HostRuntime>,
+        )?;
+        if let Worked::Failed {
+            runs: _,
+            failure,
+            choices,
+        } = worked
+        {
+            return Ok(Report::Failed {
+                runs: part.runs,
+                failure,
+                choices,
+            });
+        }
+    }
+    Err(RunnerError::NotSettled)
+}
+
+/// What such a check found, as a report. None of these tests has a livelock or a limit.
+fn reported(covered: Result<Covered, RunnerError>) -> Result<Report, RunnerError> {
+    match covered? {
+        Covered::Complete { runs, .. } => Ok(Report::Complete { runs }),
+        Covered::Failed {
+            runs,
+            failure,
+            choices,
+            ..
+        } => Ok(Report::Failed {
+            runs,
+            failure,
+            choices,
+        }),
+        Covered::Livelock { .. } | Covered::Stopped { .. } => Err(RunnerError::NotSettled),
+    }
 }
 
 /// A check of main by the defaults is complete, the visitor is given each run, one at least, and so much is counted in each.

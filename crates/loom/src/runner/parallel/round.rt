@@ -102,7 +102,7 @@ where
 }
 
 /// The first parts, so many at most, each with a new visitor.
-fn hand_out<V: Drop, G: Visitors<V>>(
+pub(crate) fn hand_out<V: Drop, G: Visitors<V>>(
     alloc: Global,
     parts: &Parts,
     visitors: &G,
@@ -173,7 +173,7 @@ fn work<R: HostTime, B: Body + Apart, V: Visitor<B::Data>>(
 }
 
 /// Each part is given back, but those of which a run failed, and its visitor is joined.
-fn take_back<D, V: Visitor<D> + Drop, G: Visitors<V>>(
+pub(crate) fn take_back<D, V: Visitor<D> + Drop, G: Visitors<V>>(
     alloc: Global,
     parts: &mut Parts,
     visitors: &mut G,

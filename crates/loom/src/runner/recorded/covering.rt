@@ -2,14 +2,16 @@
 mod learning;
 mod run;
 
-ghost use Rattle.std.specs.Prelude.{◌≡◌, ◌≤◌, ◌<◌, [], IfErr, IfOk, List, OnOk};
+ghost use Rattle.std.specs.Prelude.{◌≡◌, ◌≤◌, ◌<◌, [], IfErr, IfOk, List, OnErr, OnOk};
 ghost use Rattle.std.specs.Fn.{CalledAtMut};
 ghost use Rattle.loom_engine.specs.Path.Route.{chosen};
+ghost use Rattle.loom.specs.Model.CoverStores.{StillHolds};
 ghost use Rattle.loom.specs.Model.Covered.{Covering, FailsAlong};
 ghost use Rattle.loom.specs.Model.Settings.{tested};
 ghost use Rattle.loom.specs.declared.runner.error.RunnerError.TheVariants.{Settings};
-ghost use Rattle.loom.specs.Runner.Recorded.{CoversRecorded, Function, Word, by_function};
+ghost use Rattle.loom.specs.Runner.Recorded.{CoversRecorded, Function, StillHoldsRecorded, Word, by_function};
 ghost use Rattle.loom.specs.Runner.Recording.{IsTrueOf};
+ghost use Rattle.loom.specs.Runner.Refusals.{CountsFaults};
 
 use crate::checkpoint::store::CheckpointStore;
 use crate::model::builder::Builder;
@@ -70,6 +72,8 @@ pub fn cover_recorded<
     requires { F.IsAlwaysCallable closure }
     ensures covers { IfOk result (CoversRecorded (CalledAtMut F.FnMut) V.takes builder.now closure visitor.old visitor.new (S.gives store.old) (S.holds store.new) (C.answered clock.new)) }
     ensures refused { IfErr (tested builder.now) (λ e. (result ≡ Err (Settings e)) × (visitor.new ≡ visitor.old)) }
+    ensures left { OnErr result (StillHoldsRecorded (CalledAtMut F.FnMut) builder.now closure (S.gives store.old) (S.holds store.old) (S.holds store.new)) }
+    ensures faults { CountsFaults result (S.fault_count store.old) (S.fault_count store.new) }
 {
     builder.test()?;
     let watcher = Watcher::start(rt, alloc, builder.log, log);
@@ -115,7 +119,9 @@ fn cover_closure<
     requires branches { builder.now.max_branches ≤ 1000000 }
     requires interval { 0 < builder.now.checkpoint_interval }
     requires callable { F.IsAlwaysCallable closure.old }
-    ensures { IfOk result (CoversRecorded (CalledAtMut F.FnMut) V.takes builder.now closure.old visitor.old visitor.new (S.gives store.old) (S.holds store.new) (C.answered clock.new)) }
+    ensures covers { IfOk result (CoversRecorded (CalledAtMut F.FnMut) V.takes builder.now closure.old visitor.old visitor.new (S.gives store.old) (S.holds store.new) (C.answered clock.new)) }
+    ensures left { OnErr result (StillHoldsRecorded (CalledAtMut F.FnMut) builder.now closure.old (S.gives store.old) (S.holds store.old) (S.holds store.new)) }
+    ensures faults { CountsFaults result (S.fault_count store.old) (S.fault_count store.new) }
 {
     let Ok(mut recording) = Recording::new(alloc) else {
         return Err(RunnerError::Memory);
@@ -157,8 +163,11 @@ fn cover_known<D: Exact + Same, V: Visitor<D>, C: Clock, S: CheckpointStore, L: 
     requires few { builder.now.max_threads ≤ 5 }
     requires branches { builder.now.max_branches ≤ 1000000 }
     requires interval { 0 < builder.now.checkpoint_interval }
-    ensures { (does : Function D) → (words : List (Word D)) → IsTrueOf does words recording.now
+    ensures covers { (does : Function D) → (words : List (Word D)) → IsTrueOf does words recording.now
         → IfOk result (Covering V.takes visitor.old visitor.new builder.now (by_function does) [] (S.gives store.old) (S.holds store.new) (C.answered clock.new)) }
+    ensures left { (does : Function D) → (words : List (Word D)) → IsTrueOf does words recording.now
+        → OnErr result (StillHolds builder.now (by_function does) [] (S.gives store.old) (S.holds store.old) (S.holds store.new)) }
+    ensures faults { CountsFaults result (S.fault_count store.old) (S.fault_count store.new) }
 {
     let mut room = Room::new(alloc, builder.limits())?;
     let mut states = States::new(alloc, most_states)?;
@@ -193,8 +202,11 @@ fn cover_rounds<D: Exact + Same, V: Visitor<D>, C: Clock, S: CheckpointStore, L:
     requires branches { builder.now.max_branches ≤ 1000000 }
     requires interval { 0 < builder.now.checkpoint_interval }
     requires none { states.old ≡ record { states = []; led_by = [] } }
-    ensures { (does : Function D) → (words : List (Word D)) → IsTrueOf does words recording.now
+    ensures covers { (does : Function D) → (words : List (Word D)) → IsTrueOf does words recording.now
         → IfOk result (Covering V.takes visitor.old visitor.new builder.now (by_function does) [] (S.gives store.old) (S.holds store.new) (C.answered clock.new)) }
+    ensures left { (does : Function D) → (words : List (Word D)) → IsTrueOf does words recording.now
+        → OnErr result (StillHolds builder.now (by_function does) [] (S.gives store.old) (S.holds store.old) (S.holds store.new)) }
+    ensures faults { CountsFaults result (S.fault_count store.old) (S.fault_count store.new) }
 {
     let interval = builder.checkpoint_interval;
     let mut path = builder.begin_cover(alloc, store)?;

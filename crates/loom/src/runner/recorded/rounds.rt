@@ -6,7 +6,7 @@ ghost use Rattle.loom.specs.Model.Settings.{explores};
 ghost use Rattle.loom.specs.Runner.Check.{limits_of};
 ghost use Rattle.loom.specs.Runner.Made.{Made};
 ghost use Rattle.loom.specs.Runner.Recorded.{Function, HasMadeOne, ReportsRecorded, Word};
-ghost use Rattle.loom.specs.Runner.Recording.{EndsRound, GoesOn, IsKnownRound, IsOfRun, IsTrueOf, MakesRound};
+ghost use Rattle.loom.specs.Runner.Recording.{EndsRound, GoesOn, IsKnownRun, IsOfRun, IsTrueOf, MakesRound, MakesRun};
 ghost use Rattle.loom.specs.declared.model.rounds.Round.TheVariants.{Next};
 ghost use Rattle.loom.specs.Runner.Refusals.{CountsFaults};
 ghost use Rattle.loom.specs.Runner.Run.{Checked};
@@ -153,13 +153,17 @@ fn record_rounds<
 pub(crate) struct Recorder<D> {
     limits: Limits,
     keeps_locations: bool,
-    recording: Recording<D>,
+    pub(super) recording: Recording<D>,
     room: Room<D>,
 }
 
 impl<D: Exact + 'static> Recorder<D> {
     /// Nothing is recorded yet.
-    fn new(alloc: Global, limits: Limits, keeps_locations: bool) -> Result<Recorder<D>, RunnerError>
+    pub(crate) fn new(
+        alloc: Global,
+        limits: Limits,
+        keeps_locations: bool,
+    ) -> Result<Recorder<D>, RunnerError>
         requires some { 1 ≤ limits.max_threads }
         requires few { limits.max_threads ≤ 5 }
         ensures limits { IfOk result (λ recorder. recorder.limits ≡ limits) }
@@ -208,10 +212,42 @@ impl<D: Exact + 'static> Recorder<D> {
         ensures makes { IfOk result (λ round. MakesRound (CalledAtMut F.FnMut) V.takes self.old.limits self.old.keeps_locations path.old closure.old visitor.old self.old.recording round path.new closure.new visitor.new self.new.recording) }
         ensures errors { IfErr result IsOfRun }
     {
+        let ending = self.make_run(rt, alloc, number, watcher, closure, path)?;
+        match end_round(alloc, ending, visitor, path) {
+            Ok(round) => Ok(round),
+            Err(_) => Err(RunnerError::Memory),
+        }
+    }
+
+    /// One run along the path: by what is recorded, and where an answer isn't by a run of the closure, which is recorded. Answers what the
+    /// run came to.
+    pub(crate) fn make_run<
+        R: Threads + Wait + Clone + Send + 'static,
+        F: FnMut(&mut Handle<D, R>) -> Result<D, Stop>,
+        L: Log + Clone + Send + 'static,
+    >(
+        &mut self,
+        rt: &R,
+        alloc: Global,
+        number: u64,
+        watcher: &Watcher<D, L>,
+        closure: &mut F,
+        path: &mut Path,
+    ) -> Result<Ending<D>, RunnerError>
+        requires some { 1 ≤ self.old.limits.max_threads }
+        requires few { self.old.limits.max_threads ≤ 5 }
+        requires starts { IsAtStart path.old.explores path.old }
+        requires callable { F.IsAlwaysCallable closure.old }
+        ensures again { F.IsAlwaysCallable closure.new }
+        ensures limits { self.new.limits ≡ self.old.limits }
+        ensures locations { self.new.keeps_locations ≡ self.old.keeps_locations }
+        ensures makes { IfOk result (λ ending. MakesRun (CalledAtMut F.FnMut) self.old.limits self.old.keeps_locations path.old closure.old self.old.recording ending path.new closure.new self.new.recording) }
+        ensures errors { IfErr result IsOfRun }
+    {
         let Ok(began) = path.try_clone(alloc) else {
             return Err(RunnerError::Memory);
         };
-        let played = self.make_known_round(alloc, visitor, path);
+        let played = self.play(path);
         if let Some(known) = played? {
             return Ok(known);
         }
@@ -220,30 +256,22 @@ impl<D: Exact + 'static> Recorder<D> {
         make_room(alloc, &mut self.recording)?;
         record_run(alloc, &mut self.recording, number, events.as_slice())?;
         *path = began;
-        let again = self.make_known_round(alloc, visitor, path);
+        let again = self.play(path);
         if let Some(made) = again? {
             return Ok(made);
         }
         Err(RunnerError::NotSettled)
     }
 
-    /// One run along the path, and its step to the next one, by what is recorded, which the visitor is given. None where an answer isn't
-    /// recorded.
-    fn make_known_round<V: Visitor<D>>(
-        &mut self,
-        alloc: Global,
-        visitor: &mut V,
-        path: &mut Path,
-    ) -> Result<Option<Round>, RunnerError>
+    /// One run along the path by what is recorded. None where an answer isn't.
+    fn play(&mut self, path: &mut Path) -> Result<Option<Ending<D>>, RunnerError>
         requires some { 1 ≤ self.old.limits.max_threads }
         requires few { self.old.limits.max_threads ≤ 5 }
         requires starts { IsAtStart path.old.explores path.old }
         ensures limits { self.new.limits ≡ self.old.limits }
         ensures locations { self.new.keeps_locations ≡ self.old.keeps_locations }
         ensures recording { self.new.recording ≡ self.old.recording }
-        ensures goes { IfOk result (λ known. known ≡ Some Next → GoesOn D self.old.limits path.old path.new) }
-        ensures unknown { IfOk result (λ known. known ≡ None → visitor.new ≡ visitor.old) }
-        ensures known { IfOk result (λ known. IfSome known (λ round. IsKnownRound V.takes self.old.limits self.old.keeps_locations self.old.recording path.old visitor.old round path.new visitor.new)) }
+        ensures known { IfOk result (λ known. IfSome known (λ ending. IsKnownRun self.old.limits self.old.keeps_locations self.old.recording path.old ending path.new)) }
         ensures errors { IfErr result IsOfRun }
     {
         let played = play(
@@ -254,11 +282,7 @@ impl<D: Exact + 'static> Recorder<D> {
             path,
         );
         match played {
-            Ok(Some(ending)) => match end_round(alloc, ending, visitor, path) {
-                Ok(round) => Ok(Some(round)),
-                Err(_) => Err(RunnerError::Memory),
-            },
-            Ok(None) => Ok(None),
+            Ok(known) => Ok(known),
             Err(_) => Err(RunnerError::Memory),
         }
     }

@@ -5,7 +5,7 @@ ghost use Rattle.loom_engine.specs.Path.Route.{IsAtStart, Route, at_rest};
 ghost use Rattle.loom_engine.specs.Trees.Meeting.{whole_search};
 ghost use Rattle.loom.specs.Model.Settings.{explores};
 ghost use Rattle.loom.specs.Runner.Check.{limits_of};
-ghost use Rattle.loom.specs.Runner.Recording.{Records, RecordsMore, RecordsRun};
+ghost use Rattle.loom.specs.Runner.Recording.{IsOfRun, Records, RecordsMore, RecordsRun};
 
 use crate::model::builder::Builder;
 use crate::model::clock::Clock;
@@ -87,7 +87,8 @@ impl<D: Exact + Same> Search<D> {
     ) -> Result<(), RunnerError>
         requires branches { builder.now.max_branches ≤ 1000000 }
         requires rests { self.old.path ≡ at_rest (whole_search builder.now.max_branches) (explores builder.now) self.old.path.nodes }
-        ensures { IfOk result (λ _. self.new.path ≡ at_rest (whole_search builder.now.max_branches) (explores builder.now) self.new.path.nodes) }
+        ensures rests { IfOk result (λ _. self.new.path ≡ at_rest (whole_search builder.now.max_branches) (explores builder.now) self.new.path.nodes) }
+        ensures errors { IfErr result IsOfRun }
     {
         if !self.is_over {
             return Ok(());
@@ -138,7 +139,8 @@ pub(crate) fn learn<
     requires few { builder.now.max_threads ≤ 5 }
     requires branches { builder.now.max_branches ≤ 1000000 }
     requires callable { F.IsAlwaysCallable closure.old }
-    ensures { IfOk result (λ _. Records (CalledAtMut F.FnMut) (limits_of builder.now) closure.old recording.old closure.new recording.new) }
+    ensures records { IfOk result (λ _. Records (CalledAtMut F.FnMut) (limits_of builder.now) closure.old recording.old closure.new recording.new) }
+    ensures errors { IfErr result IsOfRun }
 {
     let limits = Limits {
         max_threads: builder.max_threads,
@@ -199,6 +201,7 @@ fn go_on<
     ensures again { F.IsAlwaysCallable closure.new }
     ensures rests { IfOk result (λ _. search.new.path ≡ at_rest (whole_search builder.now.max_branches) (explores builder.now) search.new.path.nodes) }
     ensures records { IfOk result (λ _. RecordsMore (CalledAtMut F.FnMut) limits closure.old recording.old closure.new recording.new) }
+    ensures errors { IfErr result IsOfRun }
 {
     if builder.reached(search.runs, clock).is_some() {
         search.is_over = true;
@@ -262,6 +265,7 @@ fn record_along<
     requires callable { F.IsAlwaysCallable closure.old }
     ensures again { F.IsAlwaysCallable closure.new }
     ensures records { IfOk result (λ _. RecordsRun (CalledAtMut F.FnMut) limits closure.old recording.old closure.new recording.new) }
+    ensures errors { IfErr result IsOfRun }
 {
     let Ok(choices) = path.choices(alloc) else {
         return Err(RunnerError::Memory);

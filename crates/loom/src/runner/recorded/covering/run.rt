@@ -1,5 +1,5 @@
 //! One run of a search that remembers states, which is made of what is recorded: of a thread that is noted where it is in the recording.
-ghost use Rattle.std.specs.Prelude.{ℕ, ⊤, ◌≡◌, ◌≤◌, ◌+◌, ◌++◌, [], None, IfOk, IfSome, List, OnOk};
+ghost use Rattle.std.specs.Prelude.{ℕ, ⊤, ◌≡◌, ◌≤◌, ◌+◌, ◌++◌, [], None, IfErr, IfOk, IfSome, List, OnOk};
 ghost use Rattle.loom_objects.specs.Operation.Labelled.{Op};
 ghost use Rattle.loom_objects.specs.Operation.Plain.{plain, started};
 ghost use Rattle.loom_objects.specs.declared.operation.Request.TheVariants.{Unreachable};
@@ -9,7 +9,7 @@ ghost use Rattle.loom_engine.specs.Runs.Body.{with_child};
 ghost use Rattle.loom_engine.specs.Trees.Meeting.{whole_search};
 ghost use Rattle.loom.specs.Model.Cover.{AreNoted, ComesTo, EndsWith, IsEndBy, IsHanding, IsUnderWay, Noting, Passes, StaysOpen, noting};
 ghost use Rattle.loom.specs.Runner.Recorded.{Function, Word, by_function};
-ghost use Rattle.loom.specs.Runner.Recording.{AreAt, IsTrueOf, all_told};
+ghost use Rattle.loom.specs.Runner.Recording.{AreAt, IsOfRun, IsTrueOf, all_told};
 
 use crate::model::cover::run::{Ending, Halt, ended, pass};
 use crate::runner::error::RunnerError;
@@ -140,6 +140,7 @@ pub(crate) fn run_known<D: Exact + Same>(
         → AreNoted (by_function does) (noting limits.max_threads limits.max_steps [] path.old (all_told words states.old))
         → IfOk result (λ ending. EndsWith (by_function does) (noting limits.max_threads limits.max_steps [] path.old (all_told words states.old)) ending path.new (all_told words states.new)) }
     ensures same { IsSameSearch path.old path.new }
+    ensures errors { IfErr result IsOfRun }
 {
     match run(room, limits, recording, path, states) {
         Ok(Some(ending)) => Ok(ending),

@@ -1,12 +1,14 @@
-use Rattle.std.proofs.Common.{◌≡◌, ◌+◌, ◌<◌, ◌≤◌, [], refl, arith, rules, ap, sym, ◌∙◌, subst, length}
+use Rattle.std.proofs.Common.{◌≡◌, ◌+◌, ◌<◌, ◌≤◌, [], inl, refl, arith, rules, ap, sym, ◌∙◌, subst, length}
 use Rattle.std.proofs.lemmas.List.{length-map}
 use Rattle.loom_engine.specs.Covering.Between.{AddsRun, IsReady, IsWhole}
 use Rattle.loom_engine.specs.Path.Route.{Route, chosen}
 use Rattle.loom.specs.Model.Covered.{IsToldBy}
 use Rattle.loom.specs.Runner.Recorded.{by_function}
 use Rattle.loom.specs.Runner.Recording.{all_told, told_in}
+use Rattle.loom.proofs.Closures.Erring.{counted_begin, counted_save, made_error, memory_faultless, no_fault}
 use Rattle.loom.proofs.ModelLemmas.CoverRounds.{HasAdded, HasRun, checking_fails, checking_kept, checking_starts, checking_stops, ran_so, run_ended, run_met}
-use Rattle.loom.proofs.RunnerLemmas.RecordedCover.{rests_again, rests_start, rests_whole}
+use Rattle.loom.proofs.ModelLemmas.Errors.{on_error, uncounted}
+use Rattle.loom.proofs.RunnerLemmas.RecordedCover.{left_behind, left_unsaved, rests_again, rests_start, rests_whole}
 use Rattle.loom.proofs.runner.recorded.covering.cover_rounds.Goals.{in-Ended+in_ok-give-in-Ended, in-Met}
 use Rattle.loom.proofs.runner.recorded.covering.cover_rounds.Goals as goal
 
@@ -20,6 +22,7 @@ loop-limit-init g c = record {
     checking_starts c.args.builder.now (by_function does) [] g.V.Visitor.takes c.args.visitor.now (g.S.CheckpointStore.gives c.args.store.now) (g.S.CheckpointStore.holds c.begin_cover.new.store) c.in_ok-path.path
         (all_told words c.args.states.now) c.new-ways.result c.in_ok-path.ensures.begun (ap (all_told words) c.requires.none) c.new-ways.ensures,
   );
+  faultless = uncounted c.begin_cover.result c.in_ok-path.path _ _ c.in_ok-path.was c.begin_cover.ensures.faults;
 }
 
 pub run_known-requires-clause-starts : goal.run_known-requires-clause-starts
@@ -31,8 +34,8 @@ run_known-requires-clause-unguided g c κs lives = ap (λ (r : Route). r.given) 
 pub run_known-requires-clause-whole : goal.run_known-requires-clause-whole
 run_known-requires-clause-whole g c κs lives = rests_whole c.args.builder.now c.loop-limit.path c.loop-limit.invariant.rests
 
-pub returns-in-Some : goal.returns-in-Some
-returns-in-Some g c = λ does words true.
+pub returns-in-Some-clause-covers : goal.returns-in-Some-clause-covers
+returns-in-Some-clause-covers g c = λ does words true.
     let z = c.loop-limit.invariant.checking does words true in
     let saved = c.in_ok-save.ensures.saved in
     rw c.stopped.ensures
@@ -40,8 +43,8 @@ returns-in-Some g c = λ does words true.
     c.loop-limit.visitor c.loop-limit.runs z.0 (all_told words c.loop-limit.states) c.loop-limit.ways z.2 (g.S.CheckpointStore.holds c.save.new.store) saved.0 saved.1 c.loop-limit.met c.len.result c.in-Some.limit
     (g.C.Clock.answered c.reached.new.clock) c.in-Some.ensures.reached)
 
-pub returns-in-Failed : goal.returns-in-Failed
-returns-in-Failed g c = λ does words true.
+pub returns-in-Failed-clause-covers : goal.returns-in-Failed-clause-covers
+returns-in-Failed-clause-covers g c = λ does words true.
     let b = c.args.builder.now in
     let next = by_function does in
     let takes = g.V.Visitor.takes in
@@ -67,8 +70,8 @@ returns-in-Failed g c = λ does words true.
     (checking_fails b next [] takes v0 gives now path visitor count kept.0 noted ways here few answered after more came ran c.in-Failed.failure
     c.in_ok-failing-in-Failed.failing.failure c.in_ok-failing-in-Failed.failing.choices c.loop-limit.met c.len-in-Failed.result c.in-Failed.is (c.in_ok-failing-in-Failed.ensures b))
 
-pub returns-then-not-step : goal.returns-then-not-step
-returns-then-not-step g c = λ does words true.
+pub returns-then-not-step-clause-covers : goal.returns-then-not-step-clause-covers
+returns-then-not-step-clause-covers g c = λ does words true.
     let b = c.args.builder.now in
     let next = by_function does in
     let takes = g.V.Visitor.takes in
@@ -169,4 +172,95 @@ loop-limit-preserved g c =
                 w.in-Met.number w.in-Met.is w.visitor-is w.runs-is w.to-is
           ] in
           (kept.0 + 1, omega (arith, kept.2), has.on c.step.new.self c.step.result c.step.ensures.steps (search rules) c.step.ensures.rest c.run_known.ensures.same);
+      faultless = c.in_ok-until_save.ensures.faults ∙ c.loop-limit.invariant.faultless;
     }
+
+-- ---- errors
+
+pub returns-in_err-path-clause-left : goal.returns-in_err-path-clause-left
+returns-in_err-path-clause-left g c = λ does words true. on_error c.from_residual.result (inl c.in_err-path.ensures.left)
+
+pub returns-in_err-path-clause-faults : goal.returns-in_err-path-clause-faults
+returns-in_err-path-clause-faults g c =
+    counted_begin c.begin_cover.result c.from_residual.result c.in_err-path.field-0.0 _ _ c.in_err-path.was c.from_residual.ensures.1 c.begin_cover.ensures.faults
+
+pub returns-in_err-save-clause-left : goal.returns-in_err-save-clause-left
+returns-in_err-save-clause-left g c =
+    left_unsaved c.args.builder.now g.V.Visitor.takes c.args.visitor.now (g.S.CheckpointStore.gives c.args.store.now) c.args.recording.now (g.S.CheckpointStore.holds c.loop-limit.store) c.loop-limit.path c.loop-limit.visitor
+    c.loop-limit.runs c.loop-limit.until_save c.loop-limit.states c.loop-limit.ways c.loop-limit.invariant.checking (g.S.CheckpointStore.holds c.args.store.now)
+    (g.S.CheckpointStore.holds c.save.new.store) c.from_residual-in_err-save.result c.in_err-save.ensures.left
+
+pub returns-in_err-save-clause-faults : goal.returns-in_err-save-clause-faults
+returns-in_err-save-clause-faults g c =
+    counted_save c.from_residual-in_err-save.result c.in_err-save.field-0.0 _ _ _ c.loop-limit.invariant.faultless c.in_err-save.ensures.faults c.from_residual-in_err-save.ensures.1
+
+pub returns-in_err-until_save-clause-left : goal.returns-in_err-until_save-clause-left
+returns-in_err-until_save-clause-left g c =
+    left_unsaved c.args.builder.now g.V.Visitor.takes c.args.visitor.now (g.S.CheckpointStore.gives c.args.store.now) c.args.recording.now (g.S.CheckpointStore.holds c.loop-limit.store) c.loop-limit.path c.loop-limit.visitor
+    c.loop-limit.runs c.loop-limit.until_save c.loop-limit.states c.loop-limit.ways c.loop-limit.invariant.checking (g.S.CheckpointStore.holds c.args.store.now)
+    (g.S.CheckpointStore.holds c.keep.new.store) c.from_residual-in_err-until_save.result c.in_err-until_save.ensures.left
+
+pub returns-in_err-until_save-clause-faults : goal.returns-in_err-until_save-clause-faults
+returns-in_err-until_save-clause-faults g c =
+    counted_save c.from_residual-in_err-until_save.result c.in_err-until_save.field-0.0 _ _ _ c.loop-limit.invariant.faultless c.in_err-until_save.ensures.faults c.from_residual-in_err-until_save.ensures.1
+
+pub returns-in_err-value-clause-left : goal.returns-in_err-value-clause-left
+returns-in_err-value-clause-left g c =
+    left_behind c.args.builder.now g.V.Visitor.takes c.args.visitor.now (g.S.CheckpointStore.gives c.args.store.now) c.args.recording.now (g.S.CheckpointStore.holds c.loop-limit.store) c.loop-limit.path c.loop-limit.visitor
+    c.loop-limit.runs c.loop-limit.until_save c.loop-limit.states c.loop-limit.ways c.loop-limit.invariant.checking (g.S.CheckpointStore.holds c.args.store.now)
+    (g.S.CheckpointStore.holds c.keep.new.store) c.from_residual-in_err-value.result c.in_ok-until_save.until_save c.in_ok-until_save.ensures.kept
+
+pub returns-in_err-value-clause-faults : goal.returns-in_err-value-clause-faults
+returns-in_err-value-clause-faults g c =
+    no_fault c.from_residual-in_err-value.result c.in_err-value.field-0.0 _ _ (made_error c.from_residual-in_err-value.result c.in_err-value.field-0.0 c.from_residual-in_err-value.ensures.1) (c.in_err-value.ensures.errors _)
+    (c.in_ok-until_save.ensures.faults ∙ c.loop-limit.invariant.faultless)
+
+pub returns-in_err-give-in-Ended-clause-left : goal.returns-in_err-give-in-Ended-clause-left
+returns-in_err-give-in-Ended-clause-left g c =
+    left_behind c.args.builder.now g.V.Visitor.takes c.args.visitor.now (g.S.CheckpointStore.gives c.args.store.now) c.args.recording.now (g.S.CheckpointStore.holds c.loop-limit.store) c.loop-limit.path c.loop-limit.visitor
+    c.loop-limit.runs c.loop-limit.until_save c.loop-limit.states c.loop-limit.ways c.loop-limit.invariant.checking (g.S.CheckpointStore.holds c.args.store.now)
+    (g.S.CheckpointStore.holds c.keep.new.store) c.from_residual-in_err-give-in-Ended.result c.in_ok-until_save.until_save c.in_ok-until_save.ensures.kept
+
+pub returns-in_err-give-in-Ended-clause-faults : goal.returns-in_err-give-in-Ended-clause-faults
+returns-in_err-give-in-Ended-clause-faults g c =
+    memory_faultless c.from_residual-in_err-give-in-Ended.result _ _ c.from_residual-in_err-give-in-Ended.ensures.1 (c.in_ok-until_save.ensures.faults ∙ c.loop-limit.invariant.faultless)
+
+pub returns-in_err-failing-in-Failed-clause-left : goal.returns-in_err-failing-in-Failed-clause-left
+returns-in_err-failing-in-Failed-clause-left g c =
+    left_behind c.args.builder.now g.V.Visitor.takes c.args.visitor.now (g.S.CheckpointStore.gives c.args.store.now) c.args.recording.now (g.S.CheckpointStore.holds c.loop-limit.store) c.loop-limit.path c.loop-limit.visitor
+    c.loop-limit.runs c.loop-limit.until_save c.loop-limit.states c.loop-limit.ways c.loop-limit.invariant.checking (g.S.CheckpointStore.holds c.args.store.now)
+    (g.S.CheckpointStore.holds c.keep.new.store) c.from_residual-in_err-failing-in-Failed.result c.in_ok-until_save.until_save c.in_ok-until_save.ensures.kept
+
+pub returns-in_err-failing-in-Failed-clause-faults : goal.returns-in_err-failing-in-Failed-clause-faults
+returns-in_err-failing-in-Failed-clause-faults g c =
+    memory_faultless c.from_residual-in_err-failing-in-Failed.result _ _ c.from_residual-in_err-failing-in-Failed.ensures.1 (c.in_ok-until_save.ensures.faults ∙ c.loop-limit.invariant.faultless)
+
+pub returns-in_err-choices-clause-left : goal.returns-in_err-choices-clause-left
+returns-in_err-choices-clause-left g c =
+    left_behind c.args.builder.now g.V.Visitor.takes c.args.visitor.now (g.S.CheckpointStore.gives c.args.store.now) c.args.recording.now (g.S.CheckpointStore.holds c.loop-limit.store) c.loop-limit.path c.loop-limit.visitor
+    c.loop-limit.runs c.loop-limit.until_save c.loop-limit.states c.loop-limit.ways c.loop-limit.invariant.checking (g.S.CheckpointStore.holds c.args.store.now)
+    (g.S.CheckpointStore.holds c.keep.new.store) c.from_residual-in_err-choices.result c.in_ok-until_save.until_save c.in_ok-until_save.ensures.kept
+
+pub returns-in_err-choices-clause-faults : goal.returns-in_err-choices-clause-faults
+returns-in_err-choices-clause-faults g c =
+    memory_faultless c.from_residual-in_err-choices.result _ _ c.from_residual-in_err-choices.ensures.1 (c.in_ok-until_save.ensures.faults ∙ c.loop-limit.invariant.faultless)
+
+pub returns-in_err-add_run-clause-left : goal.returns-in_err-add_run-clause-left
+returns-in_err-add_run-clause-left g c =
+    left_behind c.args.builder.now g.V.Visitor.takes c.args.visitor.now (g.S.CheckpointStore.gives c.args.store.now) c.args.recording.now (g.S.CheckpointStore.holds c.loop-limit.store) c.loop-limit.path c.loop-limit.visitor
+    c.loop-limit.runs c.loop-limit.until_save c.loop-limit.states c.loop-limit.ways c.loop-limit.invariant.checking (g.S.CheckpointStore.holds c.args.store.now)
+    (g.S.CheckpointStore.holds c.keep.new.store) c.from_residual-in_err-add_run.result c.in_ok-until_save.until_save c.in_ok-until_save.ensures.kept
+
+pub returns-in_err-add_run-clause-faults : goal.returns-in_err-add_run-clause-faults
+returns-in_err-add_run-clause-faults g c =
+    memory_faultless c.from_residual-in_err-add_run.result _ _ c.from_residual-in_err-add_run.ensures.1 (c.in_ok-until_save.ensures.faults ∙ c.loop-limit.invariant.faultless)
+
+pub returns-in_err-told-clause-left : goal.returns-in_err-told-clause-left
+returns-in_err-told-clause-left g c =
+    left_behind c.args.builder.now g.V.Visitor.takes c.args.visitor.now (g.S.CheckpointStore.gives c.args.store.now) c.args.recording.now (g.S.CheckpointStore.holds c.loop-limit.store) c.loop-limit.path c.loop-limit.visitor
+    c.loop-limit.runs c.loop-limit.until_save c.loop-limit.states c.loop-limit.ways c.loop-limit.invariant.checking (g.S.CheckpointStore.holds c.args.store.now)
+    (g.S.CheckpointStore.holds c.keep.new.store) c.from_residual-in_err-told.result c.in_ok-until_save.until_save c.in_ok-until_save.ensures.kept
+
+pub returns-in_err-told-clause-faults : goal.returns-in_err-told-clause-faults
+returns-in_err-told-clause-faults g c =
+    memory_faultless c.from_residual-in_err-told.result _ _ c.from_residual-in_err-told.ensures.1 (c.in_ok-until_save.ensures.faults ∙ c.loop-limit.invariant.faultless)

@@ -1,6 +1,7 @@
 use Rattle.std.proofs.Common.{ap, refl}
 use Rattle.std.specs.Fn.{CalledAtMut}
 use Rattle.loom_engine.specs.Path.Route.{Route}
+use Rattle.loom.proofs.Closures.Refusing.{handed_on}
 use Rattle.loom.proofs.RunnerLemmas.RecordedCover.{records_no_more, records_one, rests_again, rests_start, rests_whole}
 use Rattle.loom.proofs.runner.recorded.covering.learning.go_on.Goals as goal
 
@@ -29,3 +30,7 @@ returns-in_ok-record_along-in-Ok-None-clause-records g c =
 pub returns-in_ok-record_along-in-Ok-None-clause-rests : goal.returns-in_ok-record_along-in-Ok-None-clause-rests
 returns-in_ok-record_along-in-Ok-None-clause-rests g c =
     rests_again c.args.builder.now c.args.search.now.path c.run.new.path c.step-in-Ok-None.new.self.path c.requires.rests c.run.ensures.same c.step-in-Ok-None.ensures
+
+pub returns-in_err-record_along-in-Ok-None-clause-errors : goal.returns-in_err-record_along-in-Ok-None-clause-errors
+returns-in_err-record_along-in-Ok-None-clause-errors g c =
+    handed_on c.from_residual.result c.in_err-record_along-in-Ok-None.field-0.0 _ c.from_residual.ensures.1 c.in_err-record_along-in-Ok-None.ensures.errors
