@@ -63,21 +63,24 @@ pub fn check<
     ensures refused { IfErr (tested builder.now) (λ e. (result ≡ Err (Settings e)) × (visitor.new ≡ visitor.old)) }
     ensures errors { builder.now.recorded ≡ false → IfErr result (IsNoReportAlone (CalledAtMut F.FnMut) V.takes builder.now closure visitor.old visitor.new) }
 {
-    check_lent(rt, alloc, builder, &mut closure, visitor)
+    let log = None::<HostRuntime>;
+    check_lent(rt, alloc, builder, &mut closure, visitor, &log)
 }
 
-/// `check` of a closure that is called again afterwards.
+/// `check` of a closure that is called again afterwards, with a log.
 pub(crate) fn check_lent<
     D: Exact + 'static,
     R: Files + Threads + Wait + Clone + Send + 'static,
     F: FnMut(&mut Handle<D, R>) -> Result<D, Stop>,
     V: Visitor<D>,
+    L: Log + Clone + Send + 'static,
 >(
     rt: &R,
     alloc: Global,
     builder: &Builder,
     closure: &mut F,
     visitor: &mut V,
+    log: &L,
 ) -> Result<Report, RunnerError>
     requires { F.IsAlwaysCallable closure.old }
     ensures again { F.IsAlwaysCallable closure.new }
@@ -87,7 +90,6 @@ pub(crate) fn check_lent<
     ensures refused { IfErr (tested builder.now) (λ e. (result ≡ Err (Settings e)) × (visitor.new ≡ visitor.old)) }
     ensures errors { builder.now.recorded ≡ false → IfErr result (IsNoReportAlone (CalledAtMut F.FnMut) V.takes builder.now closure.old visitor.old visitor.new) }
 {
-    let log = None::<HostRuntime>;
     match file_store(rt, alloc, &builder.checkpoint_file) {
         Some(mut store) => check_lent_with(
             rt,
@@ -97,9 +99,9 @@ pub(crate) fn check_lent<
             visitor,
             &mut NoClock,
             &mut store,
-            &log,
+            log,
         ),
-        None => check_unsaved(rt, alloc, builder, closure, visitor),
+        None => check_unsaved(rt, alloc, builder, closure, visitor, log),
     }
 }
 
@@ -109,12 +111,14 @@ pub(crate) fn check_unsaved<
     R: Threads + Wait + Clone + Send + 'static,
     F: FnMut(&mut Handle<D, R>) -> Result<D, Stop>,
     V: Visitor<D>,
+    L: Log + Clone + Send + 'static,
 >(
     rt: &R,
     alloc: Global,
     builder: &Builder,
     closure: &mut F,
     visitor: &mut V,
+    log: &L,
 ) -> Result<Report, RunnerError>
     requires { F.IsAlwaysCallable closure.old }
     ensures again { F.IsAlwaysCallable closure.new }
@@ -125,7 +129,6 @@ pub(crate) fn check_unsaved<
     ensures errors { builder.now.recorded ≡ false → IfErr result (IsNoReportUnsaved (CalledAtMut F.FnMut) V.takes builder.now closure.old visitor.old visitor.new) }
 {
     let mut store = None::<MemoryStore>;
-    let log = None::<HostRuntime>;
     check_lent_with(
         rt,
         alloc,
@@ -134,7 +137,7 @@ pub(crate) fn check_unsaved<
         visitor,
         &mut NoClock,
         &mut store,
-        &log,
+        log,
     )
 }
 

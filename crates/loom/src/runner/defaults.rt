@@ -46,5 +46,13 @@ pub fn model<
     ensures reports { IfOk result (λ report. (v v' : NoVisitor) × ReportsUnsaved (CalledAtMut F.FnMut) (λ old choices value new. Unit {0}) defaults closure v v' report) }
     ensures errors { IfErr result (λ e. (v v' : NoVisitor) × GivesUp (CalledAtMut F.FnMut) (λ old choices value new. Unit {0}) defaults (λ text. text ≡ None) ⊥ closure v v' e) }
 {
-    check_unsaved(rt, alloc, &Builder::new(), &mut closure, &mut NoVisitor)
+    let log = None::<HostRuntime>;
+    check_unsaved(
+        rt,
+        alloc,
+        &Builder::new(),
+        &mut closure,
+        &mut NoVisitor,
+        &log,
+    )
 }

@@ -12,8 +12,12 @@ use crate::runner::exact::Exact;
 use crate::runner::explanations::explain_lent;
 use crate::runner::handle::Handle;
 use crate::runner::stop::Stop;
+use log::kv::Source;
+use log::span::Spans;
+use log::{Level, Line, Log, Metadata, Record};
 use loom_objects::choice::Choice;
-use std::alloc::Global;
+use std::alloc::{AllocError, Global};
+use std::fmt::Display;
 use std::rt::Files;
 use std::sync::Wait;
 use std::thread::Threads;
@@ -30,8 +34,56 @@ pub enum Incomplete {
     Found(Report),
 }
 
+/// A log that prints which run a check makes, and of a thread that doesn't come back or goes on after a stop.
+#[derive(Drop)]
+struct Progress<R> {
+    rt: R,
+}
+
+impl<R: Clone> Progress<R> {
+    /// By this runtime; where that can't be had again there is no log.
+    fn by(rt: &R) -> Option<Progress<R>> {
+        match rt.clone() {
+            Ok(rt) => Some(Progress { rt }),
+            Err(_) => None,
+        }
+    }
+}
+
+impl<R: Clone> Clone for Progress<R> {
+    fn clone(&self) -> Result<Progress<R>, AllocError> {
+        Ok(Progress {
+            rt: self.rt.clone()?,
+        })
+    }
+}
+
+/// Whether a record is about the run that is made. That a run has failed is printed with its report.
+fn is_of_a_run(level: Level, target: &str) -> bool {
+    matches!(level, Level::Warn | Level::Info) && target == "loom::runner"
+}
+
+impl<R: Print> Log for Progress<R> {
+    fn enabled(&self, metadata: &Metadata<'_>) -> bool {
+        is_of_a_run(metadata.level(), metadata.target())
+    }
+
+    fn log<D: Display, K: Source, S: Spans>(&self, record: &Record<'_, D, K, S>) {
+        if is_of_a_run(record.level(), record.target()) {
+            let _ = self.rt.println(Line::new(record));
+        }
+    }
+
+    fn flush(&self) {}
+
+    fn target(&self) -> &str {
+        ""
+    }
+}
+
 /// For tests: checks the closure by these settings, and answers how many runs were made, if the check is complete. Else it prints
-/// the report, and of a run that failed what happened in it, as `explain` tells it; and the error makes the test fail (own).
+/// the report, and of a run that failed what happened in it, as `explain` tells it; and the error makes the test fail (own). Once in
+/// ten seconds it prints which run is made.
 pub fn expect_complete<
     D: Exact + 'static,
     R: Files + Print + Threads + Wait + Clone + Send + 'static,
@@ -40,7 +92,8 @@ pub fn expect_complete<
     requires { F.IsAlwaysCallable closure }
     ensures { IsAnswered (CalledAtMut F.FnMut) builder.now closure result }
 {
-    match check_lent(rt, alloc, builder, &mut closure, &mut NoVisitor) {
+    let log = Progress::by(rt);
+    match check_lent(rt, alloc, builder, &mut closure, &mut NoVisitor, &log) {
         Ok(Report::Complete { runs }) => Ok(runs),
         Ok(report) => {
             let _ = println!(rt; "{report}");

@@ -87,5 +87,6 @@ fn check_bounded<
     ensures reports { IfOk result (ReportsAt (CalledAtMut F.FnMut) builder.now bound) }
 {
     let bounded = builder.with_bound(bound);
-    check_unsaved(rt, alloc, &bounded, closure, &mut NoVisitor)
+    let log = None::<HostRuntime>;
+    check_unsaved(rt, alloc, &bounded, closure, &mut NoVisitor, &log)
 }

@@ -41,9 +41,9 @@ impl<R: Wait> Kept<R> {
         self.level.to_level_filter().allows(level)
     }
 
-    /// Whether it was told anything.
-    fn is_told(&self) -> bool {
-        !self.lines.lock(&self.rt).is_empty()
+    /// Whether it was told twice.
+    fn is_told_twice(&self) -> bool {
+        self.lines.lock(&self.rt).as_slice().len() > 1
     }
 
     /// Puts what it was told on the page.
@@ -257,20 +257,20 @@ fn a_failure_is_told(rt: HostRuntime) -> Result<(), Fail> {
     Ok(())
 }
 
-/// Keeps its turn until the log is told, for a minute at most.
+/// Keeps its turn until the log is told twice, for a minute at most.
 fn keep_turn<R: Clock + Wait>(rt: &R, log: &Kept<R>) {
     for _ in 0..550 {
-        if log.is_told() {
+        if log.is_told_twice() {
             return;
         }
         thread::sleep(rt, Duration::from_millis(100));
     }
 }
 
-/// The log is told of a thread that doesn't come back, while it doesn't.
+/// The log is told which run is made, once in ten seconds, and of a thread that doesn't come back, while it doesn't.
 #[test]
 fn a_thread_that_holds_the_turn_is_told_of(rt: HostRuntime) -> Result<(), Fail> {
-    let log = Kept::new(rt, rt.alloc(), Level::Warn)?;
+    let log = Kept::new(rt, rt.alloc(), Level::Info)?;
     let main = |handle: &mut Handle<u64, HostRuntime>| {
         let theirs = handle.allocated(log.clone())?;
         let child = handle.spawn(move |_| {
@@ -283,7 +283,8 @@ fn a_thread_that_holds_the_turn_is_told_of(rt: HostRuntime) -> Result<(), Fail> 
     holds(&rt, is_complete(&report, 1));
     let mut page = Page::new(rt.alloc());
     log.put(&mut page);
-    let text = "[WARN  loom::runner] run 1: thread 1 holds the turn\n";
+    let text =
+        "[INFO  loom::runner] run 1 is made\n[WARN  loom::runner] run 1: thread 1 holds the turn\n[INFO  loom::search] completed in 1 iterations\n";
     same(&rt, page.text.as_str(), text, "a log of closures");
     Ok(())
 }

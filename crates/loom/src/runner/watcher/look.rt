@@ -2,10 +2,10 @@
 use crate::runner::exact::Exact;
 use crate::runner::shared::Shared;
 use crate::runner::turns::Turns;
-use log::{Log, warn};
+use log::{Log, info, warn};
 use std::sync::Wait;
 
-/// Of a thread that has held the turn for so many looks, a second apart, is told.
+/// Of a thread that has held the turn for so many looks, a second apart, is told; and once in so many looks which run is made.
 const MANY: u32 = 10;
 
 /// What was seen of a run.
@@ -15,6 +15,8 @@ pub(super) struct Look {
     events: usize,
     // for how many looks no event has come
     still: u32,
+    // for how many looks it wasn't told which run is made
+    untold: u32,
 }
 
 impl Look {
@@ -24,10 +26,12 @@ impl Look {
             run: 0,
             events: 0,
             still: 0,
+            untold: 0,
         }
     }
 
-    /// Looks once more, and tells of a thread that goes on after the run has stopped, and of one that holds the turn for long.
+    /// Looks once more, and tells of a thread that goes on after the run has stopped, of one that holds the turn for long, and at
+    /// times which run is made.
     pub(super) fn look<D: Exact, R: Wait, L: Log>(
         self,
         rt: &R,
@@ -39,6 +43,9 @@ impl Look {
         tell_ignored(log, run, ignored);
         if next.still == MANY {
             warn!(log; target: "loom::runner", "run {}: thread {} holds the turn", run, thread);
+        }
+        if next.untold == 0 {
+            info!(log; target: "loom::runner", "run {} is made", run);
         }
         next
     }
@@ -67,6 +74,7 @@ impl Look {
             } else {
                 0
             },
+            untold: self.untold.saturating_add(1) % MANY,
         }
     }
 }
