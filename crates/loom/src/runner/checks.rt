@@ -23,6 +23,7 @@ use crate::runner::handle::Handle;
 use crate::runner::last_run::LastRun;
 use crate::runner::recorded::check_recorded_lent;
 use crate::runner::rounds::make_rounds;
+use crate::runner::shared::Room;
 use crate::runner::stop::Stop;
 use crate::runner::watcher::Watcher;
 use log::Log;
@@ -253,10 +254,11 @@ fn check_called<
     ensures faults { CountsFaults result (S.fault_count store.old) (S.fault_count store.new) }
 {
     builder.test()?;
+    let mut room = Room::new();
     let mut last = LastRun::none(alloc);
     let watcher = Watcher::start(rt, alloc, builder.log, log);
     let answer = make_rounds(
-        rt, alloc, builder, &watcher, &mut last, closure, visitor, clock, store, log,
+        rt, alloc, builder, &watcher, &mut room, &mut last, closure, visitor, clock, store, log,
     );
     watcher.end(rt);
     tell_failure(rt, alloc, builder, &answer, closure, log);

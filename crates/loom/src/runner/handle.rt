@@ -295,7 +295,7 @@ impl<D: Exact + 'static, R: Threads + Wait + Clone + Send + 'static> Handle<D, R
             label: _,
             name: _,
         } = self;
-        let_go_of(shared);
+        let_go_of(shared, !children.is_empty());
         let others = shared::join_all(&rt, alloc, children);
         let first = Told {
             thread,
@@ -328,8 +328,13 @@ fn is_starved<D>(stop: Option<Stop>, answer: &Result<D, Stop>) -> bool
 /// Lets a closure's answer go.
 fn let_answer_go<D: Drop>(_answer: Result<D, Stop>) {}
 
-/// Lets go of what the threads of a run share. It stands alone, since that is done in many steps.
-fn let_go_of<D: Drop>(_shared: Arc<Shared<D>, Global>) {}
+/// Lets go of what the threads of a run share. Where some of them are joined then it looks on a while before. It stands alone, since that
+/// is done in many steps.
+fn let_go_of<D: Exact>(shared: Arc<Shared<D>, Global>, joins: bool) {
+    if joins {
+        shared.look_on();
+    }
+}
 
 /// Lets the lists go.
 fn let_lists_go<D: Drop>(_first: Told<D>, _others: Result<Vec<Told<D>>, RunnerError>) {}

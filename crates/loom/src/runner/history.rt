@@ -8,7 +8,7 @@ pub mod submit;
 pub mod telling;
 pub mod told;
 
-ghost use Rattle.std.specs.Prelude.{◌≡◌, ◌+◌, ◌<◌, ◌==◌, ◌-◌, ◌^◌, ℕ, [], if◌then◌else◌, IfOk, IfErr, IfNone, IfSome, OnOk, OnSome, length, vec_len, vec_capacity, slice_index};
+ghost use Rattle.std.specs.Prelude.{◌≡◌, ◌+◌, ◌<◌, ◌==◌, ◌-◌, ◌^◌, ℕ, [], ◌∷◌, if◌then◌else◌, IfOk, IfErr, IfNone, IfSome, OnErr, OnOk, OnSome, length, vec_len, vec_capacity, slice_index};
 ghost use Rattle.loom.specs.Runner.Events.{HasStayed, IsAdded, IsCounted, IsNotAdded, made, made_by};
 
 use crate::runner::exact::Exact;
@@ -22,6 +22,7 @@ use loom_objects::operation::{Reply, Request, Turn, copy_request};
 use loom_views::rt::failure::FailureKind;
 use std::alloc::{AllocError, Global};
 use std::marker::Model;
+use std::mem;
 
 /// What an operation is answered after the end of a run (own).
 pub const MISUSE: Failure = Failure {
@@ -54,8 +55,7 @@ impl<D> History<D> {
     pub fn new(alloc: Global) -> Result<History<D>, AllocError>
         ensures { IfOk result (λ history. history ≡ []) }
     {
-        let mut counts = Vec::new(alloc);
-        counts.push(0)?;
+        let counts = first_counts(alloc)?;
         Ok(History {
             events: Vec::new(alloc),
             counts,
@@ -78,6 +78,34 @@ impl<D> History<D> {
 }
 
 impl<D: Drop> History<D> {
+    /// No event, and main alone, as before a run. What the events needed room for is kept (own). An error where memory is refused, by
+    /// which nothing is changed.
+    pub(crate) fn restart(&mut self, alloc: Global) -> Result<(), AllocError>
+        ensures events { IfOk result (λ _. self.new ≡ []) }
+    {
+        let counts = first_counts(alloc)?;
+        self.events.clear();
+        self.counts = counts;
+        Ok(())
+    }
+
+    /// The events themselves, the first one first. In their place there is none, and what this list has room for is used for those that
+    /// come (own). An error where memory is refused, by which nothing is changed.
+    pub(crate) fn exchange(
+        &mut self,
+        alloc: Global,
+        mut room: Vec<Event<D>>,
+    ) -> Result<Vec<Event<D>>, AllocError>
+        ensures events { IfOk result (λ events. events.items ≡ self.old) }
+        ensures none { IfOk result (λ _. self.new ≡ []) }
+        ensures refused { OnErr result (self.new ≡ self.old) }
+    {
+        let counts = first_counts(alloc)?;
+        room.clear();
+        self.counts = counts;
+        Ok(mem::replace(&mut self.events, room))
+    }
+
     /// The events themselves, the first one first (own).
     pub fn into_events(self) -> Vec<Event<D>>
         ensures { result.items ≡ self }
@@ -129,6 +157,15 @@ impl<D: Exact> History<D> {
             }
         }
     }
+}
+
+/// Main has handed over no operation.
+fn first_counts(alloc: Global) -> Result<Vec<usize>, AllocError>
+    ensures { IfOk result (λ counts. counts.items ≡ 0 ∷ []) }
+{
+    let mut counts = Vec::new(alloc);
+    counts.push(0)?;
+    Ok(counts)
 }
 
 /// Makes room for an event more, and a count more, and copies the operation. The operation is only lent, so that no way out of

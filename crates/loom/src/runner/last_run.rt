@@ -16,6 +16,7 @@ use loom_objects::operation::bare_request;
 use loom_views::rt::failure::FailureKind;
 use std::alloc::{AllocError, Global};
 use std::marker::Model;
+use std::mem;
 
 /// What is kept of a run: its choices, and its events (own).
 #[derive(Drop)]
@@ -41,6 +42,11 @@ impl<D> LastRun<D> {
             choices: Vec::new(alloc),
             events: Vec::new(alloc),
         }
+    }
+
+    /// Its list of events, for its room, which it has no more (own).
+    pub(crate) fn give_room(&mut self, alloc: Global) -> Vec<Event<D>> {
+        mem::replace(&mut self.events, Vec::new(alloc))
     }
 
     /// The run of these choices and events, which ended (own).

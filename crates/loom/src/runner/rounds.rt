@@ -19,6 +19,7 @@ use crate::runner::handle::Handle;
 use crate::runner::last_run::LastRun;
 use crate::runner::run::make_next_run;
 use crate::runner::run_end::RunEnd;
+use crate::runner::shared::Room;
 use crate::runner::stop::Stop;
 use crate::runner::watcher::Watcher;
 use log::Log;
@@ -28,7 +29,7 @@ use std::sync::Wait;
 use std::thread::Threads;
 
 /// Makes one run of the closure after another, by settings in range, from the path on that the store holds, each of them like the
-/// last one. The watcher is shown each of them.
+/// last one. The watcher is shown each of them, and one after another uses this room.
 pub(crate) fn make_rounds<
     D: Exact + 'static,
     R: Threads + Wait + Clone + Send + 'static,
@@ -42,6 +43,7 @@ pub(crate) fn make_rounds<
     alloc: Global,
     builder: &Builder,
     watcher: &Watcher<D, L>,
+    room: &mut Room<D>,
     last: &mut LastRun<D>,
     closure: &mut F,
     visitor: &mut V,
@@ -78,7 +80,7 @@ pub(crate) fn make_rounds<
         pace.until_save = left;
         let number = pace.runs + 1;
         let end = make_next_run(
-            rt, alloc, limits, &path, number, watcher, last, closure, visitor,
+            rt, alloc, limits, &path, number, watcher, room, last, closure, visitor,
         )?;
         match end {
             RunEnd::Ended(Some(next)) => {

@@ -16,7 +16,7 @@ use crate::runner::handle::Handle;
 use crate::runner::history::told::Told;
 use crate::runner::last_run::LastRun;
 use crate::runner::run_end::{RunEnd, next_path};
-use crate::runner::shared::{Shared, main_handle, share};
+use crate::runner::shared::{Room, Shared, main_handle};
 use crate::runner::stop::Stop;
 use crate::runner::turns::Turns;
 use crate::runner::watcher::Watcher;
@@ -52,15 +52,16 @@ pub fn make_run<
     ensures errors { IfErr result (λ e. IsNoRun (CalledAtMut F.FnMut) V.takes limits closure.old visitor.old path.now e visitor.new) }
 {
     let mut last = LastRun::none(alloc);
+    let mut room = Room::new();
     let watcher = Watcher::<D, HostRuntime>::none();
     make_next_run(
-        rt, alloc, limits, path, 1, &watcher, &mut last, closure, visitor,
+        rt, alloc, limits, path, 1, &watcher, &mut room, &mut last, closure, visitor,
     )
 }
 
 /// `make_run` of the run of this number after another one. `Changed` besides, where a thread hands over another operation than in that
 /// one, after the same choices, and the run didn't fail as not deterministic: then the visitor isn't given it (own). The watcher is shown
-/// the run.
+/// the run, and its threads share what is in this room.
 pub fn make_next_run<
     D: Exact + 'static,
     R: Threads + Wait + Clone + Send + 'static,
@@ -74,6 +75,7 @@ pub fn make_next_run<
     path: &Path,
     number: u64,
     watcher: &Watcher<D, L>,
+    room: &mut Room<D>,
     last: &mut LastRun<D>,
     closure: &mut F,
     visitor: &mut V,
@@ -87,7 +89,7 @@ pub fn make_next_run<
     ensures next { IfOk result (λ end. MakesNext (CalledAtMut F.FnMut) V.takes limits closure.old last.old end closure.new last.new) }
     ensures errors { IfErr result (λ e. IsNoNextRun (CalledAtMut F.FnMut) V.takes limits closure.old visitor.old path.now last.old number e visitor.new) }
 {
-    let shared = share(alloc, limits, path)?;
+    let shared = room.share(rt, alloc, limits, path)?;
     watcher.show(rt, number, &shared);
     let told = call_closure(rt, alloc, &shared, closure)?;
     watcher.tell(rt, number, &*shared);
@@ -186,10 +188,8 @@ fn judge<D: Exact, V: Visitor<D>>(
     let Some(value) = value else {
         return Err(RunnerError::NotSettled);
     };
-    let Ok(next) = turns.path() else {
-        return Err(RunnerError::Memory);
-    };
-    let Ok(events) = turns.take_events() else {
+    let next = turns.take_path();
+    let Ok(events) = turns.exchange_events(last.give_room(alloc)) else {
         return Err(RunnerError::Memory);
     };
     if visitor.run(choices.as_slice(), value).is_err() {

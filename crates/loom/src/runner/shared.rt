@@ -20,7 +20,7 @@ use loom_objects::label::Label;
 use loom_objects::operation::{Name, Reply, Request, ThreadOp};
 use loom_ops::thread::JoinHandle;
 use loom_views::rt::MAX_THREADS;
-use std::alloc::Global;
+use std::alloc::{AllocError, Global};
 use std::hint::spin_loop;
 use std::sync::atomic::{AtomicU64, Ordering};
 use std::sync::{Arc, Condvar, Mutex, MutexGuard, Wait};
@@ -41,6 +41,68 @@ pub fn share<D: Exact + 'static>(
         return Err(RunnerError::Memory);
     };
     share_turns(alloc, turns)
+}
+
+/// The state that the threads of a run shared, which the next one uses again (own).
+#[derive(Drop)]
+pub struct Room<D> {
+    shared: Option<Arc<Shared<D>, Global>>,
+}
+
+impl<D> Room<D> {
+    /// Before the first run (own).
+    pub fn new() -> Room<D> {
+        Room { shared: None }
+    }
+}
+
+impl<D: Exact + 'static> Room<D> {
+    /// What the threads of a run share that begins with the path, as `share` makes it. `Memory` where a growth was refused.
+    pub(crate) fn share<R: Wait>(
+        &mut self,
+        rt: &R,
+        alloc: Global,
+        limits: Limits,
+        path: &Path,
+    ) -> Result<Arc<Shared<D>, Global>, RunnerError>
+        requires some { 1 ≤ limits.max_threads }
+        requires few { limits.max_threads ≤ 5 }
+        requires starts { IsAtStart path.now.explores path.now }
+        ensures { IfErr result (λ e. e ≡ RunnerError.Memory) }
+    {
+        if let Some(shared) = &self.shared {
+            return share_again(rt, shared, limits, path);
+        }
+        let Ok(shared) = share(alloc, limits, path) else {
+            return Err(RunnerError::Memory);
+        };
+        let Ok(again) = Arc::try_clone(&shared) else {
+            return Err(RunnerError::Memory);
+        };
+        self.shared = Some(again);
+        Ok(shared)
+    }
+}
+
+/// What the threads of the run before have shared, at the beginning of a run along the path. All of them have ended.
+fn share_again<D: Exact + 'static, R: Wait>(
+    rt: &R,
+    shared: &Arc<Shared<D>, Global>,
+    limits: Limits,
+    path: &Path,
+) -> Result<Arc<Shared<D>, Global>, RunnerError>
+    requires some { 1 ≤ limits.max_threads }
+    requires few { limits.max_threads ≤ 5 }
+    requires starts { IsAtStart path.now.explores path.now }
+    ensures { IfErr result (λ e. e ≡ RunnerError.Memory) }
+{
+    if shared.restart(rt, limits, path).is_err() {
+        return Err(RunnerError::Memory);
+    }
+    match Arc::try_clone(shared) {
+        Ok(mine) => Ok(mine),
+        Err(_) => Err(RunnerError::Memory),
+    }
 }
 
 /// What the threads of a run share whose choices are drawn. `Memory` where a growth was refused.
@@ -72,6 +134,7 @@ fn share_turns<D: Exact + 'static>(
     let shared = Shared {
         turns: Mutex::new(turns),
         shown: AtomicU64::new(0),
+        looks: AtomicU64::new(MOST_LOOKS),
         places: [
             Condvar::new(),
             Condvar::new(),
@@ -110,6 +173,8 @@ pub struct Shared<D> {
     pub turns: Mutex<Turns<D>>,
     // whose turn it is, or `ALL`, for threads that look before they sleep. What counts is what stands in `turns`.
     shown: AtomicU64,
+    // how often a thread looks before it sleeps
+    looks: AtomicU64,
     // where each thread sleeps, by its number
     places: [Condvar; MAX_THREADS],
 }
@@ -117,11 +182,28 @@ pub struct Shared<D> {
 /// What is shown once the run goes no further, so that no thread waits.
 const ALL: u64 = u64::MAX;
 
-/// How often a thread looks whether its turn has come before it sleeps. Another one's turn is mostly shorter than that, and far shorter
-/// than to sleep and to be woken takes.
-const LOOKS: u32 = 100;
+/// How often a thread looks at most whether its turn has come before it sleeps. Another one's turn is mostly shorter than that, and far
+/// shorter than to sleep and to be woken takes.
+const MOST_LOOKS: u64 = 20_000;
+
+/// How often it looks at least.
+const LEAST_LOOKS: u64 = 100;
+
+/// How often a thread looks on before it joins others that are ending.
+const LAST_LOOKS: u32 = 2_000;
 
 impl<D: Exact> Shared<D> {
+    /// The state is that before a run along the path, within these limits, of which main has the first turn.
+    fn restart<R: Wait>(&self, rt: &R, limits: Limits, path: &Path) -> Result<(), AllocError>
+        requires some { 1 ≤ limits.max_threads }
+        requires few { limits.max_threads ≤ 5 }
+        requires starts { IsAtStart path.now.explores path.now }
+    {
+        self.shown.store(0, Ordering::SeqCst);
+        let mut turns = self.turns.lock(rt);
+        turns.restart(path, limits)
+    }
+
     /// Gives the state back, and wakes the thread whose turn it is now, or each one where the run goes no further. They are woken once
     /// the lock is let go, so that they needn't wait for it.
     fn pass_on(&self, turns: MutexGuard<'_, Turns<D>>) {
@@ -140,19 +222,49 @@ impl<D: Exact> Shared<D> {
         }
     }
 
-    /// Waits until the thread is decided: it looks a while, and then it sleeps. Answers the state.
+    /// Waits until the thread is decided: it looks a while, and then it sleeps. Answers the state. Where looking was enough, the next one
+    /// looks longer, and else half as long: where other work keeps the threads of the run from going on at once, it is better to sleep.
     fn wait<R: Wait>(&self, rt: &R, me: u8) -> MutexGuard<'_, Turns<D>> {
-        self.look(me);
+        let looks = self.looks.load(Ordering::SeqCst);
+        let next = if self.look(me, looks) {
+            more_looks(looks)
+        } else {
+            fewer_looks(looks)
+        };
+        self.looks.store(next, Ordering::SeqCst);
+        self.sleep(rt, me)
+    }
+
+    /// Waits for the thread's first turn. Answers the state. That turn may come late, so it says nothing of how long to look.
+    fn wait_first<R: Wait>(&self, rt: &R, me: u8) -> MutexGuard<'_, Turns<D>> {
+        self.look(me, self.looks.load(Ordering::SeqCst));
+        self.sleep(rt, me)
+    }
+
+    /// Sleeps until the thread is decided. Answers the state.
+    fn sleep<R: Wait>(&self, rt: &R, me: u8) -> MutexGuard<'_, Turns<D>> {
         let turns = self.turns.lock(rt);
         self.place(me)
             .wait_while(rt, turns, |turns| !turns.is_decided(me))
     }
 
-    /// Looks a while whether the thread is shown to be decided.
-    fn look(&self, me: u8) {
-        for _ in 0..LOOKS {
+    /// Looks so often whether the thread is shown to be decided.
+    fn look(&self, me: u8, looks: u64) -> bool {
+        for _ in 0..looks {
             let shown = self.shown.load(Ordering::SeqCst);
             if shown == u64::from(me) || shown == ALL {
+                return true;
+            }
+            spin_loop();
+        }
+        false
+    }
+
+    /// Looks on a while once the run goes no further: then the threads are ending, mostly sooner than one that joins them falls asleep
+    /// and is woken.
+    pub(crate) fn look_on(&self) {
+        for _ in 0..LAST_LOOKS {
+            if self.shown.load(Ordering::SeqCst) != ALL {
                 return;
             }
             spin_loop();
@@ -163,6 +275,16 @@ impl<D: Exact> Shared<D> {
     fn place(&self, thread: u8) -> &Condvar {
         &self.places[thread as usize % MAX_THREADS]
     }
+}
+
+/// How often the next thread looks, where one has looked long enough.
+fn more_looks(looks: u64) -> u64 {
+    looks.saturating_mul(2).min(MOST_LOOKS)
+}
+
+/// How often the next thread looks, where one has looked in vain.
+fn fewer_looks(looks: u64) -> u64 {
+    (looks / 2).max(LEAST_LOOKS)
 }
 
 /// What is shown where it is this thread's turn, or where the run goes no further.
@@ -251,7 +373,7 @@ pub(crate) fn answer_again<D: Exact, R: Wait>(rt: &R, shared: &Shared<D>, me: u8
 
 /// Waits until the thread may start. False if it never may.
 fn is_started<D: Exact, R: Wait>(rt: &R, shared: &Shared<D>, me: u8) -> bool {
-    shared.wait(rt, me).starts(me)
+    shared.wait_first(rt, me).starts(me)
 }
 
 /// Starts a thread for the job, which waits for its turn.

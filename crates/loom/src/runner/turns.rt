@@ -135,6 +135,32 @@ impl<D: Exact> Turns<D> {
         })
     }
 
+    /// The state before a run along the path, within these limits, in place of the one that it was (own). What that needed room for is
+    /// used again. An error where memory is refused, by which the run is spoiled.
+    pub(crate) fn restart(&mut self, path: &Path, limits: Limits) -> Result<(), AllocError>
+        requires some { 1 ≤ limits.max_threads }
+        requires few { limits.max_threads ≤ 5 }
+        requires starts { IsAtStart path.now.explores path.now }
+        ensures began { IfOk result (λ _. self.new.began ≡ path.now) }
+        ensures limits { IfOk result (λ _. self.new.limits ≡ limits) }
+        ensures history { IfOk result (λ _. self.new.history ≡ []) }
+        ensures spoiled { IfOk result (λ _. self.new.spoiled ≡ None) }
+        ensures drawn { IfOk result (λ _. self.new.drawn ≡ false) }
+    {
+        let began = path.try_clone(self.alloc)?;
+        let along = path.try_clone(self.alloc)?;
+        self.spoiled = Some(Stop::Memory);
+        self.history.restart(self.alloc)?;
+        self.place.execution.restart(limits)?;
+        self.place.path = along;
+        self.place.drawing = None;
+        self.began = began;
+        self.limits = limits;
+        self.ignored = Ignored::new();
+        self.spoiled = None;
+        Ok(())
+    }
+
     /// Hands over an operation of the thread whose turn it is, with its label: one event more. Once the run is over, or spoiled, it changes
     /// nothing. Where memory is refused, or that thread isn't there, the run is spoiled by that reason (own).
     pub fn submit(&mut self, op: Request<D, ()>, label: Option<Label>)
@@ -240,6 +266,30 @@ impl<D: Exact> Turns<D> {
         ensures { result.now ≡ self.now.history }
     {
         self.history.events()
+    }
+
+    /// The path of the run. It goes no further, and has none any more (own).
+    pub(crate) fn take_path(&mut self) -> Path
+        ensures path { result ≡ self.old.now.route }
+        ensures history { self.new.history ≡ self.old.history }
+        ensures drawn { self.new.drawn ≡ self.old.drawn }
+    {
+        let none = Path::new(self.alloc, self.place.path.search());
+        self.spoiled = Some(Stop::Refused);
+        mem::replace(&mut self.place.path, none)
+    }
+
+    /// The events of the run, the first one first. It goes no further, and has none any more, but room for those that come, in this list
+    /// (own). An error where memory is refused.
+    pub(crate) fn exchange_events(
+        &mut self,
+        room: Vec<Event<D>>,
+    ) -> Result<Vec<Event<D>>, AllocError>
+        ensures events { IfOk result (λ events. events.items ≡ self.old.history) }
+        ensures drawn { self.new.drawn ≡ self.old.drawn }
+    {
+        self.spoiled = Some(Stop::Refused);
+        self.history.exchange(self.alloc, room)
     }
 
     /// The events of the run, the first one first. It goes no further, and has none any more (own). An error where memory is refused, by

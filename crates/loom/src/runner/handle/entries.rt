@@ -13,12 +13,16 @@ use loom_objects::operation::{Name, Reply, Request, ThreadOp, copy_request};
 use loom_ops::thread::JoinHandle;
 use std::alloc::Global;
 
+// A list that grows begins with room for so many.
+const FIRST_ROOM: usize = 16;
+
 /// Makes room for one more. False where a growth was refused.
 pub(crate) fn has_room<T>(list: &mut Vec<T>) -> bool
     ensures room { result ≡ true → vec_len list.new < vec_capacity list.new }
     ensures same { list.new.items ≡ list.old.items }
 {
-    list.reserve(1).is_ok()
+    let more = if list.is_empty() { FIRST_ROOM } else { 1 };
+    list.reserve(more).is_ok()
 }
 
 /// Makes room for one more, and copies the operation for it. None where a growth was refused.

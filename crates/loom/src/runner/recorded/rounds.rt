@@ -300,8 +300,7 @@ fn end_round<D: Exact, V: Visitor<D>>(
     match ending {
         Ending::Failed(failure) => Ok(Round::Failed(failure, path.choices(alloc)?)),
         Ending::Ended(value) => {
-            let choices = path.choices(alloc)?;
-            visitor.run(choices.as_slice(), value)?;
+            visitor.run_along(alloc, path, value)?;
             if path.step() {
                 Ok(Round::Next)
             } else {

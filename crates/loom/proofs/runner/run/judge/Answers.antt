@@ -17,12 +17,12 @@ returns-clause-judged g c =
     ok_gives c.run.result (g.V.Visitor.takes c.args.visitor.now c.as_slice-2.result.now c.in-Some-value.value c.run.new.self) c.run.ensures (sym c.if-is_err.ensures.value) in
     let taken =
     subst (λ (l : List Choice). g.V.Visitor.takes c.args.visitor.now l c.in-Some-value.value c.run.new.self) (c.as_slice-2.ensures.value ∙ c.in-Ok.ensures) ran in
-    (settled, record { value = c.in-Some-value.value; ended = sym c.in-Ok-value.ensures ∙ c.in-Some-value.is; taken = taken }, subst (λ (r : Route). GoesTo r c.next_path.result) c.in-Ok-path.ensures c.next_path.ensures)
+    (settled, record { value = c.in-Some-value.value; ended = sym c.in-Ok-value.ensures ∙ c.in-Some-value.is; taken = taken }, subst (λ (r : Route). GoesTo r c.next_path.result) c.take_path-next.ensures.path c.next_path.ensures)
 
 pub returns-clause-next : goal.returns-clause-next
 returns-clause-next g c = (
   agrees c.args.last.now c.args.turns.now c.as_slice.result.now (c.as_slice.ensures.value ∙ c.in-Ok.ensures) c.in_ok-compare.ensures.like (sym c.failure.ensures ∙ c.in_default-failure.is),
-  c.new.ensures ∙ ap₂ trace c.in-Ok.ensures c.in-Ok-take_events.ensures.events,
+  c.new.ensures ∙ ap₂ trace c.in-Ok.ensures (c.in-Ok-exchange_events.ensures.events ∙ c.take_path-next.ensures.history),
 )
 
 pub returns-in-Some-failure-clause-next : goal.returns-in-Some-failure-clause-next
