@@ -61,6 +61,7 @@ pub fn walk<
 {
     builder.test()?;
     let watcher = Watcher::start(rt, alloc, builder.log, log);
+    let mut drawer = Drawer::new(walk);
     let mut different = Different::new(alloc, builder.max_different);
     let answer = make_walk(
         rt,
@@ -68,6 +69,7 @@ pub fn walk<
         builder,
         walk,
         &watcher,
+        &mut drawer,
         &mut different,
         &mut closure,
         visitor,
@@ -78,7 +80,7 @@ pub fn walk<
     answer
 }
 
-/// The runs of a walk, by settings in range. The watcher is shown each of them, and no run has come yet.
+/// The runs of a walk, by settings in range, whose choices this draws. The watcher is shown each of them, and no run has come yet.
 fn make_walk<
     D: Exact + 'static,
     R: Threads + Wait + Clone + Send + 'static,
@@ -92,6 +94,7 @@ fn make_walk<
     builder: &Builder,
     walk: Walk,
     watcher: &Watcher<D, L>,
+    drawer: &mut Drawer,
     different: &mut Different,
     closure: &mut F,
     visitor: &mut V,
@@ -109,7 +112,6 @@ fn make_walk<
     ensures errors { IfErr result (BreaksOff (CalledAtMut F.FnMut) V.takes builder.now walk closure.old visitor.old visitor.new) }
 {
     let path = Path::new(alloc, builder.drawn_search());
-    let mut drawer = Drawer::new(walk);
     let asked = walk.runs();
     let mut cut = 0u64;
     'walking: for number in 0..asked {
@@ -124,16 +126,9 @@ fn make_walk<
         }
         builder.log_run(log, number);
         drawer.begin();
+        let run = number + 1;
         let end = draw_run(
-            rt,
-            alloc,
-            builder,
-            &path,
-            number + 1,
-            watcher,
-            &mut drawer,
-            closure,
-            visitor,
+            rt, alloc, builder, &path, run, watcher, drawer, closure, visitor,
         )?;
         match end {
             DrawnEnd::Ended(hash) => different.note(hash),
