@@ -3,6 +3,7 @@ pub mod apart;
 pub(crate) mod progress;
 pub(crate) mod round;
 pub mod texts;
+pub(crate) mod turn_clock;
 pub mod visitors;
 
 ghost use Rattle.std.specs.Prelude.{◌≡◌, ◌≤◌, [], Err, IfErr, IfOk, IfSome};
@@ -42,7 +43,8 @@ use std::thread::Threads;
 pub struct Workers {
     /// How many parts are worked on at a time. Zero counts as one.
     pub count: usize,
-    /// How long each of them is worked on at a time, by a clock that begins then.
+    /// How long each of them is worked on at a time, by a clock that begins then. Where its time is limited that is less once nothing is
+    /// left of one of them, and where there are fewer parts than workers.
     pub slice: Slice,
 }
 

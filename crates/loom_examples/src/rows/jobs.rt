@@ -22,8 +22,8 @@ use std::sync::Wait;
 use std::thread::{self, Threads};
 use std::time::Duration;
 
-// Each part is worked on for so long at a time. A worker whose part has ended before waits for the others.
-const SLICE_MILLIS: u64 = 20;
+// Each part is worked on for so long at a time at most.
+const SLICE_MILLIS: u64 = 200;
 
 // The list of parts is saved so often at most.
 const SAVE_MILLIS: u64 = 1000;

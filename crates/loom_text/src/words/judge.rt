@@ -46,8 +46,8 @@ pub(crate) enum Job<'a> {
 // Above so many runs it is said that there is a way to make fewer.
 const MANY_RUNS: u64 = 1_000_000;
 
-// A worker works on a part for so long at a time. One whose part has ended before waits for the others.
-const SLICE_MILLIS: u64 = 20;
+// A worker works on a part for so long at a time at most.
+const SLICE_MILLIS: u64 = 200;
 
 /// Does this with the test in the file, prints what comes of it, and answers the exit status: 0 where it holds, 1 where it
 /// doesn't, and 2 where the file can't be read, is no test, or can't be checked so.

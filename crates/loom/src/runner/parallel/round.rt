@@ -6,13 +6,13 @@ ghost use Rattle.loom.specs.Model.Settings.{explores};
 ghost use Rattle.loom.specs.Runner.Workers.{AreAtMost, AreHandedOut, AreWorkedOn, HasRoom, IsAtMost, IsTaken, IsWorkedOn, TakesBack, TakesTurn};
 
 use crate::model::builder::Builder;
-use crate::model::clock::HostClock;
 use crate::model::error::CheckError;
 use crate::model::parts::{Slice, Worked};
 use crate::model::visitor::Visitor;
 use crate::runner::last_run::shared_choices;
 use crate::runner::parallel::Workers;
 use crate::runner::parallel::apart::Apart;
+use crate::runner::parallel::turn_clock::TurnClock;
 use crate::runner::parallel::visitors::Visitors;
 use loom_engine::rt::parts::{Part, Parts};
 use loom_engine::rt::path::node::Node;
@@ -21,7 +21,9 @@ use loom_objects::choice::Choice;
 use loom_objects::failure::Failure;
 use std::alloc::{AllocError, Global};
 use std::rt::Clock as HostTime;
+use std::sync::atomic::{AtomicBool, Ordering};
 use std::thread::{self, Threads};
+use std::time::Duration;
 
 /// A part that is to be worked on, with its visitor.
 #[derive(Drop)]
@@ -59,6 +61,9 @@ const PARTS_FOR_EACH: usize = 3;
 // So many cuts are made at a time at most.
 const MOST_CUTS: usize = 1000;
 
+// A turn has so many milliseconds at most where there are fewer parts than workers: some are cut behind it.
+const FEW_PARTS_MILLIS: u64 = 20;
+
 impl Workers {
     /// The workers, and the runs of each, of whom all together make no more than so many runs in a turn.
     pub(crate) fn within(self, room: u64) -> Workers
@@ -72,6 +77,16 @@ impl Workers {
             count,
             slice: Slice { runs, ..self.slice },
         }
+    }
+
+    /// How much time a turn has with so many parts, if that is limited.
+    fn time_with(self, parts: usize) -> Option<Duration> {
+        let until = self.slice.until?;
+        let few = Duration::from_millis(FEW_PARTS_MILLIS);
+        if parts < self.count && few < until {
+            return Some(few);
+        }
+        Some(until)
     }
 }
 
@@ -97,7 +112,11 @@ where
     ensures within { IfOk result (λ turn. turn.runs ≤ workers.count * max 1 workers.slice.runs) }
 {
     let jobs = hand_out(alloc, parts, visitors, workers.count)?;
-    let done = work_on_each(rt, alloc, builder, body, workers.slice, jobs)?;
+    let slice = Slice {
+        until: workers.time_with(jobs.len()),
+        ..workers.slice
+    };
+    let done = work_on_each(rt, alloc, builder, body, slice, jobs)?;
     take_back::<B::Data, V, G>(alloc, parts, visitors, done)
 }
 
@@ -141,15 +160,22 @@ where
     ensures within { IfOk result (λ done. AreAtMost (max 1 slice.runs) done.items) }
     ensures len { IfOk result (λ done. length done.items ≡ length jobs.items) }
 {
-    thread::map_vec(rt, jobs, &|job| work(rt, alloc, builder, body, slice, job))
+    let is_over = AtomicBool::new(false);
+    let is_over = &is_over;
+    thread::map_vec(
+        rt,
+        jobs,
+        &|job| { work(rt, alloc, builder, body, is_over, slice, job) },
+    )
 }
 
-/// The part is worked on for a while, with a body of its own.
+/// The part is worked on for a while, with a body of its own. The turn is over once nothing is left of it.
 fn work<R: HostTime, B: Body + Apart, V: Visitor<B::Data>>(
     rt: &R,
     alloc: Global,
     builder: &Builder,
     body: &B,
+    is_over: &AtomicBool,
     slice: Slice,
     job: Job<V>,
 ) -> Done<V>
@@ -160,11 +186,14 @@ fn work<R: HostTime, B: Body + Apart, V: Visitor<B::Data>>(
         mut part,
         mut visitor,
     } = job;
-    let mut clock = HostClock::start(rt);
+    let mut clock = TurnClock::start(rt, is_over);
     let worked = match body.apart() {
         Ok(own) => builder.check_part(alloc, &own, &mut part, slice, &mut visitor, &mut clock),
         Err(refused) => Err(CheckError::from(refused)),
     };
+    if part.is_done {
+        is_over.store(true, Ordering::SeqCst);
+    }
     Done {
         part,
         visitor,
@@ -283,19 +312,33 @@ fn rank(default: Option<u8>, option: Choice) -> u8 {
     }
 }
 
-/// Cuts parts, the first ones first, while there are fewer than three for each worker.
+/// Cuts parts, the largest ones first, while there are fewer than three for each worker.
 pub(crate) fn cut_up(alloc: Global, parts: &mut Parts, workers: usize) -> Result<(), AllocError>
     ensures { IfOk result (λ _. Cuts parts.old parts.new) }
 {
     let wanted = workers.saturating_mul(PARTS_FOR_EACH);
-    let mut number = 0;
     for _ in 0..MOST_CUTS {
-        if parts.len() >= wanted || number >= parts.len() {
+        if parts.len() >= wanted {
             return Ok(());
         }
-        if !parts.cut(alloc, number)? {
-            number += 1;
-        }
+        let Some(number) = largest(parts) else {
+            return Ok(());
+        };
+        parts.cut(alloc, number)?;
     }
     Ok(())
+}
+
+/// The number of a part that can be cut, of which as few choices are fixed as of any other: mostly it is the largest one.
+fn largest(parts: &Parts) -> Option<usize> {
+    let mut found = None;
+    let mut least = usize::MAX;
+    for (number, part) in parts.list.iter().enumerate() {
+        let fixed = part.base.len();
+        if fixed < part.path.len() && fixed < least {
+            found = Some(number);
+            least = fixed;
+        }
+    }
+    found
 }
