@@ -11,7 +11,7 @@ use crate::rows::drawing::draw_row;
 use crate::rows::options::{Asked, RowAsked, is_option, read};
 use crate::rows::tasks::{Task, do_changed};
 use crate::rows::walks::look_at_row;
-use crate::rows::{self, Row, json, row_of, timed};
+use crate::rows::{self, Row, json, timed};
 use clap::Error;
 use log::Log;
 use loom::{Choices, ChoicesError};
@@ -174,10 +174,11 @@ fn run_task<R: AllocGlobal + Clock + Files, L: Log, O: Write, E: Write>(
     if let Some(most_states) = asked.covers {
         return cover(rt, most_states, asked, out, err);
     }
-    let rows = rows::all_rows(rt.alloc())?;
-    let Some(row) = row_of(rows.as_slice(), asked.name) else {
+    let Some(row) = row_or_body(rt.alloc(), asked.name)? else {
+        let rows = rows::all_rows(rt.alloc())?;
         return refuse_name(rt.alloc(), rows.as_slice(), asked.name, err);
     };
+    let row = &row;
     if asked.walk.is_some() || asked.shortens {
         return look_at_row(rt, log, row, task, asked, out, err);
     }
