@@ -5,6 +5,7 @@ mod bodies;
 mod explained;
 mod guide;
 mod logs;
+mod printed;
 mod resumed;
 mod rows;
 mod walks;

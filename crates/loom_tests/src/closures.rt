@@ -10,6 +10,7 @@ mod forms_in_children;
 mod forms_of_values;
 mod others;
 mod recorded;
+mod recording;
 mod turns;
 
 use loom::Choice;

@@ -11,6 +11,7 @@ use loom_views::rt::num::change::Change;
 use loom_views::rt::num::{Numbers, Numeric};
 use loom_views::rt::views::Views;
 use loom_views::rt::vv::VersionVec;
+use loom_views::same::Same;
 use std::process::Abort;
 use std::sync::atomic::Ordering::{self, Relaxed};
 
@@ -427,6 +428,24 @@ fn counted(rt: &impl Abort, zero: usize, one: usize) -> VersionVec {
         holds(rt, vector.inc(1), "a raise of thread 1");
     }
     vector
+}
+
+// A thread that waits for another value of the atomic.
+fn spin(views: &mut Views) {
+    let _ = views.raise(0);
+    let _ = views.load(0, 0, 0, Ordering::Acquire);
+}
+
+#[test]
+fn spinning_comes_back(rt: HostRuntime) {
+    let mut views = Views::new(rt.alloc());
+    let _ = views.add_atomic(0, 0);
+    spin(&mut views);
+    let once = views.ranked(rt.alloc()).expect(&rt, "no memory for views");
+    spin(&mut views);
+    let again = views.ranked(rt.alloc()).expect(&rt, "no memory for views");
+    holds(&rt, once.is_same(&again), "by ranks they are the same");
+    holds(&rt, !once.is_same(&views), "by counts they aren't");
 }
 
 #[test]

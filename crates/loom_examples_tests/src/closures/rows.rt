@@ -1,5 +1,6 @@
 //! What the program prints of the rows that are closures.
 use crate::closures::holds;
+use crate::explanations::texts;
 use loom::model::builder::Builder;
 use loom_examples::closures::rows::{ClosureRow, ROWS, named, run_row};
 use loom_examples::closures::tasks::run_asked;
@@ -122,7 +123,13 @@ struct Said {
     status: u8,
 }
 
-static SAID: [Said; 13] = [
+static SAID: [Said; 17] = [
+    Said {
+        words: &["--explain", "relaxed_ring_closures"],
+        out: texts::relaxed_ring_closures::TEXT,
+        err: "",
+        status: 1,
+    },
     Said {
         words: &["--replay", "t9 l0", "lock_beside_closures"],
         out: "",
@@ -172,6 +179,24 @@ static SAID: [Said; 13] = [
         status: 0,
     },
     Said {
+        words: &["--cover", "lock_beside_closures"],
+        out: "complete 1 met 2 states 6\n",
+        err: "",
+        status: 0,
+    },
+    Said {
+        words: &["--cover", "store_buffering_closures"],
+        out: "complete 4 met 14 states 32\n",
+        err: "",
+        status: 0,
+    },
+    Said {
+        words: &["--cover", "two_mutexes_deadlock_closures"],
+        out: "failed 2 1 t1 t1 t2 t2 t-\n",
+        err: "",
+        status: 1,
+    },
+    Said {
         words: &["--json", "lock_beside_closures"],
         out: "{\"result\":\"complete\",\"row\":\"lock_beside_closures\",\"runs\":3}\n",
         err: "",
@@ -195,8 +220,8 @@ static SAID: [Said; 13] = [
         status: 1,
     },
     Said {
-        words: &["--walk", "1", "1", "store_buffering_closures"],
-        out: "walked 1 0 different 1\n",
+        words: &["--walk", "1", "100", "store_buffering_closures"],
+        out: "walked 100 0 different 37\n",
         err: "",
         status: 0,
     },
@@ -229,7 +254,8 @@ fn is_said<R: AllocGlobal + Clock + Files + Threads + Wait + Clone + Send + 'sta
     )
 }
 
-/// A row of closures takes the options that any other row takes, and names those that it doesn't.
+/// A row of closures takes the options that any other row takes, and names those that it doesn't. By `--cover` it prints what the body
+/// of the same name does.
 #[test]
 fn rows_take_all_options(rt: HostRuntime) -> Result<(), Fail> {
     for said in &SAID {

@@ -30,6 +30,7 @@ pub mod race_mutated;
 pub mod race_three;
 pub mod race_unreleased;
 pub mod relaxed_fence;
+pub mod relaxed_ring_closures;
 pub mod second_waiter;
 pub mod too_many_branches;
 pub mod too_many_steps;

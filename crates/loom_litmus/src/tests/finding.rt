@@ -2,9 +2,10 @@
 use loom::model::builder::Builder;
 use loom::model::clock::NoClock;
 use loom::model::cover::MOST_STATES;
+use loom::model::error::CheckError;
 use loom_text::read::read;
 use loom_text::run::answer::{Answer, Found};
-use loom_text::run::check::check;
+use loom_text::run::check::{Outcome, check};
 use loom_text::run::counting::Unheard;
 use loom_text::run::cover::cover;
 use loom_text::run::layout::Layout;
@@ -93,6 +94,39 @@ fn put_covered(alloc: Global, test: &Test, lines: &mut String) {
             found: &found,
         };
         put_answer(alloc, answer, lines);
+    }
+}
+
+/// Whether the first run of the test is made, or refused by name.
+pub fn is_run(alloc: Global, test: &Test) -> bool {
+    let builder = Builder {
+        max_permutations: Some(1),
+        max_steps: 1_000,
+        ..Builder::new()
+    };
+    if let Ok(layout) = Layout::of(alloc, test)
+        && let Ok(program) = assemble(alloc, test, &layout, "test.litmus")
+        && let Ok(main) = TestThread::main(alloc, program)
+    {
+        let mut clock = NoClock;
+        let checked = check(
+            alloc,
+            &builder,
+            test,
+            &layout,
+            &main,
+            &mut clock,
+            &mut Unheard,
+        );
+        return is_named(&checked);
+    }
+    false
+}
+
+fn is_named(checked: &Result<Outcome, CheckError>) -> bool {
+    match checked {
+        Ok(_) => true,
+        Err(error) => *error != CheckError::Memory,
     }
 }
 

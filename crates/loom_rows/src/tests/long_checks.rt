@@ -10,6 +10,7 @@ mod folder;
 mod limits;
 mod measured;
 mod mutations;
+mod part_files;
 mod path_words;
 mod places;
 mod progress;

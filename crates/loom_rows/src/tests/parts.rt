@@ -1,48 +1,42 @@
-//! A search that is cut into parts makes the runs that one check makes, each once, and no text of parts is taken that isn't one's.
+//! A search that is cut into parts makes the runs that one check makes, each once.
 use super::checking::{Keeper, found_by, is_run};
-use super::{bodies, searches, shared};
-use crate::tests::asserting::holds;
+use super::finding::replays;
+use super::rows::compared_rows;
+use crate::tests::asserting::{same, script};
+use loom::model::builder::Builder;
 use loom::model::error::CheckError;
 use loom::model::parts::{Slice, Worked};
 use loom::{Body, NoClock};
-use loom_engine::rt::parts::error::PartsError;
 use loom_engine::rt::parts::{Part, Parts};
-use loom_engine::rt::path::Search;
-use loom_engine::rt::path::checkpoint::error::PathError;
-use loom_engine::rt::path::checkpoint::text::from_text;
+use loom_examples::bodies::updates::Updater;
 use loom_examples::rows::settings::{Builds, Settings};
-use loom_examples::rows::{Checked, DEFAULTS, Row, row_of};
-use loom_examples::scripts::script::Script;
+use loom_examples::rows::{Checked, Row};
 use loom_plain::run::Ending;
 use loom_plain::search::Found;
+use loom_testing::page::Page;
 use std::alloc::{AllocError, Global};
 use std::process::Abort;
 
-// Each part is worked on for one run.
+/// Each part is worked on for one run.
 pub(super) const ONE_RUN: Slice = Slice {
     runs: 1,
     until: None,
 };
 
-// How many rounds a search may take here: each makes a run, and no row has so many.
-const MOST: usize = 400;
+/// A body is compared if its check makes so many runs at most. Each round makes one at least.
+pub(super) const MOST: usize = 400;
+
+/// What comes of the comparison.
+pub(super) const COMPARED: &str =
+    "not compared: orders_equal\nnot compared: three_adds\nnot compared: acq_rel\nnot compared: three_planted\nnot compared: five_counting\nthe same set: 210";
 
 // What a search in parts came to.
-#[derive(Clone, Copy, PartialEq, Eq)]
+#[derive(Drop)]
 enum Came {
     /// Nothing was left.
     ToItsEnd,
-    /// A run failed.
-    ToAFailure,
-}
-
-fn search_of(settings: Settings) -> Search {
-    Search {
-        reduce: settings.reduce,
-        bound: settings.preemption_bound.map(|bound| bound.min(255) as u8),
-        max_branches: settings.max_branches.min(1_000_000) as u32,
-        explores: !settings.expect_explicit_explore,
-    }
+    /// This run failed.
+    ToAFailure(Found),
 }
 
 // The first parts, so many at most.
@@ -56,46 +50,76 @@ fn take(alloc: Global, parts: &Parts, workers: usize) -> Result<Vec<Part>, Alloc
     Ok(taken)
 }
 
-// Each of the first parts is worked on, so many at most, and given back; then each is cut. Whether no run failed.
-fn make_round<B: Body<Data = u64>>(
+// Makes a run of each of these parts, up to one that fails, which is the answer.
+fn work_on<B: Body<Data = u64>>(
     alloc: Global,
-    settings: Settings,
+    builder: &Builder,
+    body: &B,
+    taken: &mut Vec<Part>,
+    keeper: &mut Keeper,
+) -> Result<Option<Found>, CheckError> {
+    for part in taken.iter_mut() {
+        match builder.check_part(alloc, body, part, ONE_RUN, keeper, &mut NoClock)? {
+            Worked::Made { .. } => {}
+            Worked::Failed {
+                runs: _,
+                failure,
+                choices,
+            } => {
+                let ending = Ending::Failed(failure.kind);
+                return Ok(Some(Found { choices, ending }));
+            }
+        }
+    }
+    Ok(None)
+}
+
+fn give_back(alloc: Global, parts: &mut Parts, taken: Vec<Part>) -> Result<(), AllocError> {
+    for part in taken {
+        parts.give_back(alloc, part)?;
+    }
+    Ok(())
+}
+
+fn cut(alloc: Global, parts: &mut Parts, times: usize) -> Result<(), AllocError> {
+    for _ in 0..times {
+        parts.cut(alloc, 0)?;
+    }
+    Ok(())
+}
+
+/// Each of the first parts is worked on, so many at most, and given back; then each is cut. Answers the run that failed, if one did.
+pub(super) fn make_round<B: Body<Data = u64>>(
+    alloc: Global,
+    builder: &Builder,
     body: &B,
     workers: usize,
     parts: &mut Parts,
     keeper: &mut Keeper,
-) -> Result<bool, CheckError> {
-    let builder = settings.builder();
+) -> Result<Option<Found>, CheckError> {
     let mut taken = take(alloc, parts, workers)?;
-    for part in taken.iter_mut() {
-        match builder.check_part(alloc, body, part, ONE_RUN, keeper, &mut NoClock)? {
-            Worked::Made { .. } => {}
-            Worked::Failed { .. } => return Ok(false),
-        }
+    let failed = work_on(alloc, builder, body, &mut taken, keeper)?;
+    if failed.is_none() {
+        give_back(alloc, parts, taken)?;
+        cut(alloc, parts, workers)?;
     }
-    for part in taken {
-        parts.give_back(alloc, part)?;
-    }
-    for _ in 0..workers {
-        parts.cut(alloc, 0)?;
-    }
-    Ok(true)
+    Ok(failed)
 }
 
 fn make_rounds<B: Body<Data = u64>>(
     alloc: Global,
-    settings: Settings,
+    builder: &Builder,
     body: &B,
     workers: usize,
+    parts: &mut Parts,
     keeper: &mut Keeper,
 ) -> Result<Option<Came>, CheckError> {
-    let mut parts = Parts::new(alloc, search_of(settings))?;
     for _ in 0..MOST {
         if parts.is_over() {
             return Ok(Some(Came::ToItsEnd));
         }
-        if !make_round(alloc, settings, body, workers, &mut parts, keeper)? {
-            return Ok(Some(Came::ToAFailure));
+        if let Some(run) = make_round(alloc, builder, body, workers, parts, keeper)? {
+            return Ok(Some(Came::ToAFailure(run)));
         }
     }
     Ok(None)
@@ -128,109 +152,73 @@ pub(super) fn is_failing(run: Option<&Found>) -> bool {
     }
 }
 
-// Whether a search by so many workers makes the runs that a check makes, or fails as it does.
-fn is_as_check<B: Body<Data = u64>>(
+// Whether a search by so many workers makes these runs, or fails as they do, with choices that fail so again.
+fn makes<B: Body<Data = u64>>(
     alloc: Global,
-    settings: Settings,
+    builder: &Builder,
     body: &B,
     workers: usize,
+    runs: &[Found],
 ) -> bool {
-    let whole = found_by(alloc, settings, body);
+    let Ok(mut parts) = builder.parts(alloc) else {
+        return false;
+    };
     let mut keeper = Keeper::new(alloc);
-    let came = make_rounds(alloc, settings, body, workers, &mut keeper);
-    let runs = whole.found.as_slice();
-    match came {
+    match &make_rounds(alloc, builder, body, workers, &mut parts, &mut keeper) {
         Ok(Some(Came::ToItsEnd)) => {
             are_of(keeper.found.as_slice(), runs) && keeper.found.len() == runs.len()
         }
-        Ok(Some(Came::ToAFailure)) => is_failing(runs.last()),
+        Ok(Some(Came::ToAFailure(run))) => {
+            is_failing(runs.last()) && replays(alloc, builder, body, run)
+        }
         Ok(None) | Err(_) => false,
     }
 }
 
-fn are_as_check<B: Body<Data = u64>>(alloc: Global, settings: Settings, body: &B) -> bool {
-    is_as_check(alloc, settings, body, 1)
-        && is_as_check(alloc, settings, body, 2)
-        && is_as_check(alloc, settings, body, 7)
+// Whether searches by one, two and seven workers are as a check. None where the check makes too many runs.
+fn are_as_check<B: Body<Data = u64>>(alloc: Global, settings: Settings, body: &B) -> Option<bool> {
+    let limited = Settings {
+        max_permutations: Some(MOST),
+        ..settings
+    };
+    let whole = found_by(alloc, limited, body);
+    if !whole.is_counted {
+        return None;
+    }
+    let unlimited = Settings {
+        max_permutations: None,
+        ..settings
+    };
+    let builder = unlimited.builder();
+    let runs = whole.found.as_slice();
+    Some(
+        makes(alloc, &builder, body, 1, runs)
+            && makes(alloc, &builder, body, 2, runs)
+            && makes(alloc, &builder, body, 7, runs),
+    )
 }
 
-fn compare_rows(rt: &(impl Abort + AllocGlobal), rows: &[Row]) {
-    for row in rows {
-        if let Checked::Script(steps) = row.checked {
-            let is_so = match &Script::new(rt.alloc(), steps) {
-                Ok(script) => are_as_check(rt.alloc(), row.settings, script),
-                Err(_) => false,
-            };
-            holds(rt, is_so, row.name);
+fn is_row_as_check(rt: &(impl Abort + AllocGlobal), row: &Row) -> Option<bool> {
+    match row.checked {
+        Checked::Script(steps) => are_as_check(rt.alloc(), row.settings, &script(rt, steps)),
+        Checked::Updater(one, other) => {
+            are_as_check(rt.alloc(), row.settings, &Updater::main(one, other))
         }
     }
 }
 
 #[test]
 fn parts_make_the_runs_of_a_check(rt: HostRuntime) {
-    compare_rows(&rt, bodies::atomic_rows());
-    compare_rows(&rt, bodies::lock_rows());
-    compare_rows(&rt, searches::rows());
-    compare_rows(&rt, shared::channel_rows());
-    compare_rows(&rt, shared::value_rows());
-}
-
-// A list that isn't at its beginning: some parts, of which one has made a run, and what was handed out.
-fn list_of(alloc: Global, row: &Row) -> Option<Parts> {
-    let Checked::Script(steps) = row.checked else {
-        return None;
-    };
-    let body = Script::new(alloc, steps).ok()?;
-    let mut parts = Parts::new(alloc, search_of(row.settings)).ok()?;
-    let mut keeper = Keeper::new(alloc);
-    for _ in 0..3 {
-        make_round(alloc, row.settings, &body, 2, &mut parts, &mut keeper).ok()?;
-    }
-    Some(parts)
-}
-
-// Whether the text is refused by name, or holds a list that has a text which is read.
-fn is_refused_or_read(alloc: Global, search: Search, text: &[u8]) -> bool {
-    match Parts::from_text(alloc, text, search) {
-        Ok(parts) => match parts.to_text(alloc) {
-            Ok(again) => Parts::from_text(alloc, again.as_bytes(), search).is_ok(),
-            Err(_) => false,
-        },
-        Err(error) => !matches!(error, PartsError::Memory(_)),
-    }
-}
-
-// How many of the list's texts in which one byte is this one are neither.
-fn wrong_texts(alloc: Global, search: Search, text: &mut [u8], byte: u8) -> usize {
-    let mut wrong = 0usize;
-    for place in 0..text.len() {
-        let was = text[place];
-        text[place] = byte;
-        if !is_refused_or_read(alloc, search, text) {
-            wrong = wrong.saturating_add(1);
+    let rows = compared_rows(&rt);
+    let mut page = Page::new(rt.alloc());
+    let mut compared = 0u64;
+    for row in &rows {
+        match is_row_as_check(&rt, row) {
+            Some(true) => compared = compared.saturating_add(1),
+            Some(false) => page.put("another set: ", &row.name),
+            None => page.put("not compared: ", &row.name),
         }
-        text[place] = was;
     }
-    wrong
-}
-
-#[test]
-fn spoilt_texts_of_parts_are_refused_or_are_a_list(rt: HostRuntime) {
-    let alloc = rt.alloc();
-    let search = search_of(DEFAULTS);
-    let row = row_of(searches::rows(), "three stores").expect(&rt, "no row");
-    let parts = list_of(alloc, row).expect(&rt, "no list");
-    let text = parts.to_text(alloc).expect(&rt, "no text");
-    let mut bytes = text.as_bytes().to_vec(alloc).expect(&rt, "no memory");
-    for byte in b"07,]}[\"t" {
-        let wrong = wrong_texts(alloc, search, bytes.as_mut_slice(), *byte);
-        holds(&rt, wrong == 0, "spoilt texts");
-    }
-    let again = Parts::from_text(alloc, bytes.as_slice(), search).expect(&rt, "not read");
-    let same = again.to_text(alloc).expect(&rt, "no text");
-    let is_same = same.as_bytes() == bytes.as_slice();
-    holds(&rt, is_same, "the list is read back");
-    let plain = from_text(alloc, bytes.as_slice(), search);
-    let is_refused = matches!(plain, Err(PathError::WrongShape));
-    holds(&rt, is_refused, "a plain check refuses it");
+    page.add_number("the same set: ", compared);
+    same(&rt, page.text.as_str(), COMPARED, "all bodies");
 }

@@ -1,5 +1,5 @@
 //! The rows of the program, and the bodies of tests behind them.
-use super::{bodies, each_operation, others, searches, shared};
+use super::{bodies, each_operation, late, others, searches, shared};
 use crate::tests::asserting::holds;
 use loom_examples::rows::Row;
 use loom_examples::rows::tables::all_rows;
@@ -31,5 +31,21 @@ pub fn rows_of(rt: &(impl Abort + AllocGlobal)) -> Vec<Row> {
     add(rt, &mut rows, shared::channel_rows());
     add(rt, &mut rows, shared::waker_rows());
     add(rt, &mut rows, shared::value_rows());
+    rows
+}
+
+// Puts the rows of the table behind the others.
+fn add_late(rt: &impl Abort, rows: &mut Vec<Row>, table: &[(Row, &str)]) {
+    for (row, _) in table {
+        holds(rt, rows.push(*row).is_ok(), "no memory for the rows");
+    }
+}
+
+/// All bodies, and those of late misuse.
+pub fn compared_rows(rt: &(impl Abort + AllocGlobal)) -> Vec<Row> {
+    let mut rows = rows_of(rt);
+    for table in &late::tables() {
+        add_late(rt, &mut rows, *table);
+    }
     rows
 }

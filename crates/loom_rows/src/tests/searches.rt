@@ -157,7 +157,7 @@ const COUNT_AND_DROPS: &[Step] = &[
 ];
 
 /// Main and two threads each store.
-const THREE_STORES: &[Step] = &[
+pub const THREE_STORES: &[Step] = &[
     NEW,
     Step::SpawnAt(1, "child"),
     Step::SpawnAt(2, "child"),

@@ -1,15 +1,19 @@
 //! A check by several workers makes the runs that one check makes, each once.
 use super::checking::{Keeper, found_by};
-use super::parts::{ONE_RUN, are_of, is_failing};
-use super::{bodies, searches, shared};
-use crate::tests::asserting::holds;
+use super::finding::replays;
+use super::parts::{COMPARED, MOST, ONE_RUN, are_of, is_failing};
+use super::rows::compared_rows;
+use crate::tests::asserting::{same, script};
+use loom::model::builder::Builder;
 use loom::model::error::CheckError;
 use loom::runner::{Apart, Found as Came, Visitors, Workers, check_parallel};
 use loom::{Body, NoClock};
+use loom_examples::bodies::updates::Updater;
 use loom_examples::rows::settings::{Builds, Settings};
 use loom_examples::rows::{Checked, Row};
-use loom_examples::scripts::script::Script;
+use loom_plain::run::Ending;
 use loom_plain::search::Found;
+use loom_testing::page::Page;
 use std::alloc::{AllocError, Global};
 use std::process::Abort;
 use std::rt::Clock;
@@ -44,12 +48,11 @@ impl Visitors<Keeper> for Keepers {
 fn find<R: Threads + Wait + Clock + Sync, B: Body<Data = u64> + Apart + Sync>(
     rt: &R,
     alloc: Global,
-    settings: Settings,
+    builder: &Builder,
     body: &B,
     count: usize,
     keepers: &mut Keepers,
 ) -> Result<Came, CheckError> {
-    let builder = settings.builder();
     let workers = Workers {
         count,
         slice: ONE_RUN,
@@ -59,7 +62,7 @@ fn find<R: Threads + Wait + Clock + Sync, B: Body<Data = u64> + Apart + Sync>(
     check_parallel(
         rt,
         alloc,
-        &builder,
+        builder,
         body,
         workers,
         &mut parts,
@@ -69,51 +72,90 @@ fn find<R: Threads + Wait + Clock + Sync, B: Body<Data = u64> + Apart + Sync>(
     )
 }
 
-// Whether so many workers make the runs that a check makes, or fail as it does.
-fn is_as_check<R: Threads + Wait + Clock + Sync, B: Body<Data = u64> + Apart + Sync>(
+// Whether so many workers make these runs, or fail as they do, with choices that fail so again.
+fn make<R: Threads + Wait + Clock + Sync, B: Body<Data = u64> + Apart + Sync>(
     rt: &R,
     alloc: Global,
-    settings: Settings,
+    builder: &Builder,
     body: &B,
     count: usize,
+    runs: &[Found],
 ) -> bool {
-    let whole = found_by(alloc, settings, body);
     let mut keepers = Keepers {
         alloc,
         found: Vec::new(alloc),
     };
-    let came = find(rt, alloc, settings, body, count, &mut keepers);
-    let runs = whole.found.as_slice();
-    match came {
+    match find(rt, alloc, builder, body, count, &mut keepers) {
         Ok(Came::Complete { .. }) => {
             are_of(keepers.found.as_slice(), runs) && keepers.found.len() == runs.len()
         }
-        Ok(Came::Failed { .. }) => is_failing(runs.last()),
+        Ok(
+            Came::Failed {
+                runs: _,
+                failure,
+                choices,
+            },
+        ) => {
+            let ending = Ending::Failed(failure.kind);
+            let run = Found { choices, ending };
+            is_failing(runs.last()) && replays(alloc, builder, body, &run)
+        }
         Ok(Came::Stopped { .. }) | Err(_) => false,
     }
 }
 
-fn compare_rows<R: Abort + AllocGlobal + Threads + Wait + Clock + Sync>(rt: &R, rows: &[Row]) {
-    for row in rows {
-        if let Checked::Script(steps) = row.checked {
-            let is_so = match &Script::new(rt.alloc(), steps) {
-                Ok(script) => {
-                    is_as_check(rt, rt.alloc(), row.settings, script, 1)
-                        && is_as_check(rt, rt.alloc(), row.settings, script, 2)
-                        && is_as_check(rt, rt.alloc(), row.settings, script, 7)
-                }
-                Err(_) => false,
-            };
-            holds(rt, is_so, row.name);
+// Whether one, two and seven workers do as a check. None where it makes too many runs.
+fn are_as_check<R: Threads + Wait + Clock + Sync, B: Body<Data = u64> + Apart + Sync>(
+    rt: &R,
+    alloc: Global,
+    settings: Settings,
+    body: &B,
+) -> Option<bool> {
+    let limited = Settings {
+        max_permutations: Some(MOST),
+        ..settings
+    };
+    let whole = found_by(alloc, limited, body);
+    if !whole.is_counted {
+        return None;
+    }
+    let unlimited = Settings {
+        max_permutations: None,
+        ..settings
+    };
+    let builder = unlimited.builder();
+    let runs = whole.found.as_slice();
+    Some(
+        make(rt, alloc, &builder, body, 1, runs)
+            && make(rt, alloc, &builder, body, 2, runs)
+            && make(rt, alloc, &builder, body, 7, runs),
+    )
+}
+
+fn is_row_as_check<R: Abort + AllocGlobal + Threads + Wait + Clock + Sync>(
+    rt: &R,
+    row: &Row,
+) -> Option<bool> {
+    match row.checked {
+        Checked::Script(steps) => are_as_check(rt, rt.alloc(), row.settings, &script(rt, steps)),
+        Checked::Updater(one, other) => {
+            are_as_check(rt, rt.alloc(), row.settings, &Updater::main(one, other))
         }
     }
 }
 
 #[test]
 fn workers_make_the_runs_of_a_check(rt: HostRuntime) {
-    compare_rows(&rt, bodies::atomic_rows());
-    compare_rows(&rt, bodies::lock_rows());
-    compare_rows(&rt, searches::rows());
-    compare_rows(&rt, shared::channel_rows());
-    compare_rows(&rt, shared::value_rows());
+    let rows = compared_rows(&rt);
+    let mut page = Page::new(rt.alloc());
+    let mut compared = 0u64;
+    for row in &rows {
+        match is_row_as_check(&rt, row) {
+            Some(true) => compared = compared.saturating_add(1),
+            Some(false) => page.put("another set: ", &row.name),
+            None => page.put("not compared: ", &row.name),
+        }
+    }
+    page.add_number("the same set: ", compared);
+    same(&rt, page.text.as_str(), COMPARED, "all bodies");
 }

@@ -1,8 +1,13 @@
-//! Spoilt copies of the tests: each gives a test or an error with a name. What is read of one comes again when it is written.
+//! Spoilt copies of the tests: each gives a test or an error with a name. What is read of one comes again when it is written, and a run
+//! is made of it.
+use crate::tests::finding::is_run;
 use crate::tests::reading::numbers::Numbers;
 use crate::tests::reading::texts::TEXTS;
-use crate::tests::reading::written::{is_written_so, written};
+use crate::tests::reading::written::is_written_so;
 use loom_text::error::ReadError;
+use loom_text::read::read;
+use loom_text::test::Test;
+use loom_text::write::write;
 use std::alloc::{AllocError, Global};
 use std::process::Abort;
 
@@ -43,14 +48,22 @@ fn spoil(alloc: Global, text: &[u8], numbers: &mut Numbers) -> Result<Vec<u8>, A
     Ok(spoilt)
 }
 
-// Whether the bytes are refused with a name, or come again when they are written.
+// Whether the test comes again when it is written, and is run.
+fn comes_again(alloc: Global, test: &Test) -> bool {
+    match write(alloc, test) {
+        Ok(first) => is_written_so(alloc, first.as_str()) && is_run(alloc, test),
+        Err(_) => false,
+    }
+}
+
+// Whether the bytes are refused with a name, or are those of a test that comes again and is run.
 fn is_answered(alloc: Global, text: &[u8]) -> bool {
-    match written(alloc, text) {
+    match read(alloc, text) {
         Err(ReadError::Wrong(mistake)) => {
             mistake.place.line >= 1 && mistake.place.column >= 1 && mistake.place.end <= text.len()
         }
         Err(ReadError::Memory) => false,
-        Ok(first) => is_written_so(alloc, first.as_str()),
+        Ok(test) => comes_again(alloc, &test),
     }
 }
 

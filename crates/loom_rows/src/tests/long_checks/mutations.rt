@@ -2,15 +2,20 @@
 use super::limits::check_alone;
 use super::texts::ZERO;
 use super::{HEAD, Shelf, WHOLE_END, check, lock_beside};
-use crate::tests::asserting::{holds, same};
+use crate::tests::asserting::{holds, same, script};
 use crate::tests::checking::{Keeper, report_of};
+use crate::tests::parts::{ONE_RUN, make_round};
+use crate::tests::searches::THREE_STORES;
 use loom::model::Report;
+use loom::model::builder::Builder;
 use loom::model::error::CheckError;
-use loom::{FailureKind, MemoryStore};
-use loom_examples::rows::WHOLE;
+use loom::runner::NoVisitor;
+use loom::{FailureKind, MemoryStore, NoClock};
+use loom_engine::rt::parts::{Part, Parts};
 use loom_examples::rows::settings::{Builds, Settings};
 use loom_examples::rows::tables::first::LOAD_BESIDE;
 use loom_examples::rows::tables::locks::NOTIFY_WAIT;
+use loom_examples::rows::{DEFAULTS, WHOLE};
 use loom_examples::scripts::script::Script;
 use loom_examples::scripts::step::Step;
 use loom_testing::page::Page;
@@ -305,4 +310,124 @@ fn first_mutations_end(rt: HostRuntime) {
 #[test]
 fn second_mutations_end(rt: HostRuntime) {
     all_mutations_end(&rt, &SECOND);
+}
+
+// What a text of parts is of.
+#[derive(Clone, Copy)]
+enum Kind {
+    List,
+    Part,
+}
+
+// A list that isn't at its beginning: some parts, of which one has made a run, and what was handed out.
+fn list_of(alloc: Global, builder: &Builder, body: &Script) -> Option<Parts> {
+    let mut parts = builder.parts(alloc).ok()?;
+    let mut keeper = Keeper::new(alloc);
+    for _ in 0..3 {
+        make_round(alloc, builder, body, 2, &mut parts, &mut keeper).ok()?;
+    }
+    Some(parts)
+}
+
+// The text of the list's first part.
+fn text_of_part(alloc: Global, parts: &Parts) -> Option<String> {
+    let part = parts.take(alloc, 0).ok()??;
+    part.to_text(alloc).ok()
+}
+
+// The text with another byte, or with another number.
+fn spoilt(alloc: Global, numbers: &mut Numbers, text: &[u8]) -> Vec<u8> {
+    if numbers.below(2) == 0 {
+        return with_other_number(alloc, numbers, text);
+    }
+    let mut copy = Vec::new(alloc);
+    let _ = copy.extend_from_slice(text);
+    change_byte(numbers, copy.as_mut_slice());
+    copy
+}
+
+// Whether a run is made of the part, and its text then read.
+fn is_part(alloc: Global, builder: &Builder, body: &Script, mut part: Part) -> bool {
+    let worked = builder.check_part(
+        alloc,
+        body,
+        &mut part,
+        ONE_RUN,
+        &mut NoVisitor,
+        &mut NoClock,
+    );
+    match part.to_text(alloc) {
+        Ok(text) => worked.is_ok() && builder.part_from(alloc, text.as_bytes()).is_ok(),
+        Err(_) => false,
+    }
+}
+
+// Whether the list's text is read, and its first part goes on, if there is one.
+fn is_list(alloc: Global, builder: &Builder, body: &Script, parts: &Parts) -> bool {
+    let is_read = match parts.to_text(alloc) {
+        Ok(text) => builder.parts_from(alloc, text.as_bytes()).is_ok(),
+        Err(_) => false,
+    };
+    match parts.take(alloc, 0) {
+        Ok(Some(part)) => is_read && is_part(alloc, builder, body, part),
+        Ok(None) => is_read,
+        Err(_) => false,
+    }
+}
+
+fn is_refusal(error: CheckError) -> bool {
+    matches!(error.number(), 7..=12)
+}
+
+// Whether the text is refused by name, or is one of such parts, which go on.
+fn is_answered(alloc: Global, builder: &Builder, body: &Script, kind: Kind, text: &[u8]) -> bool {
+    match kind {
+        Kind::List => match builder.parts_from(alloc, text) {
+            Ok(parts) => is_list(alloc, builder, body, &parts),
+            Err(error) => is_refusal(error),
+        },
+        Kind::Part => match builder.part_from(alloc, text) {
+            Ok(part) => is_part(alloc, builder, body, part),
+            Err(error) => is_refusal(error),
+        },
+    }
+}
+
+// How many spoilt copies are answered before one that isn't.
+fn answered(alloc: Global, builder: &Builder, body: &Script, kind: Kind, text: &[u8]) -> u64 {
+    let mut numbers = Numbers { state: FIRST[0] };
+    for at in 0..MUTATIONS {
+        let copy = spoilt(alloc, &mut numbers, text);
+        if !is_answered(alloc, builder, body, kind, copy.as_slice()) {
+            return at;
+        }
+    }
+    MUTATIONS
+}
+
+#[test]
+fn spoilt_texts_of_parts_are_refused_or_go_on(rt: HostRuntime) {
+    let alloc = rt.alloc();
+    let builder = DEFAULTS.builder();
+    let body = script(&rt, THREE_STORES);
+    let list = list_of(alloc, &builder, &body).expect(&rt, "no list");
+    let text = list.to_text(alloc).expect(&rt, "no text");
+    let part = text_of_part(alloc, &list).expect(&rt, "no part");
+    let mut page = Page::new(alloc);
+    let lists = answered(alloc, &builder, &body, Kind::List, text.as_bytes());
+    page.put("lists ", &lists);
+    let parts = answered(alloc, &builder, &body, Kind::Part, part.as_bytes());
+    page.put("parts ", &parts);
+    let all = "lists 10000\nparts 10000\n";
+    same(
+        &rt,
+        page.text.as_str(),
+        all,
+        "texts before the first bad one",
+    );
+    let again = builder
+        .parts_from(alloc, text.as_bytes())
+        .expect(&rt, "not read");
+    let copy = again.to_text(alloc).expect(&rt, "no text");
+    same(&rt, copy.as_str(), text.as_str(), "the list is read back");
 }

@@ -1,16 +1,22 @@
 //! What a log is told.
 use super::{lock_beside, put_found};
-use crate::tests::asserting::same;
+use crate::tests::asserting::{holds, same, script};
+use crate::tests::parts::ONE_RUN;
 use log::sink::Memory;
 use log::{Level, Log, Logged};
 use loom::model::builder::Builder;
-use loom::runner::NoVisitor;
+use loom::runner::{Found, NoVisitor, Workers, check_parallel};
 use loom::{MemoryStore, NoClock};
-use loom_examples::rows::WHOLE;
 use loom_examples::rows::settings::Builds;
+use loom_examples::rows::tables::first::STORE_BUFFERING;
+use loom_examples::rows::{DEFAULTS, WHOLE};
 use loom_examples::scripts::script::Script;
 use loom_testing::page::Page;
 use std::alloc::Global;
+use std::process::Abort;
+use std::rt::Clock;
+use std::sync::Wait;
+use std::thread::Threads;
 
 const ITERATIONS: &str =
     "complete 3\n[INFO  loom::search] iteration 2\n[INFO  loom::search] about 50% done\n[INFO  loom::search] completed in 3 iterations\n";
@@ -67,4 +73,56 @@ fn a_log_is_told(rt: HostRuntime) {
         is_told(rt, *level, *switches, &mut page);
         same(&rt, page.text.as_str(), *text, "a log");
     }
+}
+
+// Turns of one run and then of two, of which the log hears each tenth run. How many parts are left goes by which ones are cut.
+const FIRST_TURNS: &str = "complete 30\n[INFO  loom::search] 11 iterations, ";
+
+const LEFT: &str = " parts left, 2 workers, about ";
+
+const LAST_TURNS: &str = "% done\n[INFO  loom::search] completed in 30 iterations\n";
+
+// Two workers, each of which makes one run in a turn.
+const TWO: Workers = Workers {
+    count: 2,
+    slice: ONE_RUN,
+};
+
+// Puts on the page what two workers find, and tells the log of them.
+fn put_turns<R: Abort + AllocGlobal + Clock + Threads + Wait + Sync>(
+    rt: &R,
+    builder: &Builder,
+    log: &impl Log,
+    page: &mut Page,
+) {
+    let body = script(rt, STORE_BUFFERING);
+    let mut parts = builder.parts(rt.alloc()).expect(rt, "no list");
+    let found = check_parallel(
+        rt,
+        rt.alloc(),
+        builder,
+        &body,
+        TWO,
+        &mut parts,
+        &mut NoVisitor,
+        &mut NoClock,
+        log,
+    );
+    if let Ok(Found::Complete { runs }) = &found {
+        page.put("complete ", runs);
+    }
+}
+
+#[test]
+fn a_log_is_told_of_workers(rt: HostRuntime) {
+    let mut builder = DEFAULTS.builder();
+    builder.checkpoint_interval = 10;
+    let mut page = Page::new(rt.alloc());
+    let log = Logged::new(rt, Level::Info, Memory::new(rt.alloc()));
+    put_turns(&rt, &builder, &log, &mut page);
+    let (_, sink) = log.into_parts();
+    put_lines(sink.into_lines().as_slice(), &mut page);
+    let text = page.text.as_str();
+    let is_so = text.starts_with(FIRST_TURNS) && text.contains(LEFT) && text.ends_with(LAST_TURNS);
+    holds(&rt, is_so, text);
 }
