@@ -1,10 +1,8 @@
-//! Tests by the examples: what is told of scripts and of closures, walks, and what the documents show.
+//! Tests by the examples: what is told of scripts, walks of bodies and of closures, and what the documents show.
 #![tactic(auto)]
 
 #[cfg(test)]
 mod asserting;
-#[cfg(test)]
-mod closures;
 #[cfg(test)]
 mod explanations;
 #[cfg(test)]

@@ -1,4 +1,6 @@
 //! Walks, and shorter failures.
+mod closures;
+
 use crate::asserting::holds;
 use loom::model::visitor::Visitor;
 use loom::model::{Builder, Replay, Walk, Walked};

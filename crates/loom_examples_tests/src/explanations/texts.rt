@@ -1,10 +1,5 @@
 //! The text that is told of each body, in a file of its own.
 pub mod assertion;
-pub mod closures_assertion;
-pub mod closures_deadlock;
-pub mod closures_leak;
-pub mod closures_misuse;
-pub mod closures_race;
 pub mod deadlock;
 pub mod deadlock_all;
 pub mod deadlock_asleep;
@@ -30,7 +25,6 @@ pub mod race_mutated;
 pub mod race_three;
 pub mod race_unreleased;
 pub mod relaxed_fence;
-pub mod relaxed_ring_closures;
 pub mod second_waiter;
 pub mod too_many_branches;
 pub mod too_many_steps;

@@ -1,7 +1,7 @@
 //! What is told of a run of closures, with their data: whole texts.
 use crate::asserting::same;
 use crate::closures::{Count, holds};
-use crate::explanations::texts;
+use crate::texts;
 use loom::choices::Choices;
 use loom::model::builder::Builder;
 use loom::runner::{Handle, Incomplete, RunnerError, Stop, expect_complete, explain};

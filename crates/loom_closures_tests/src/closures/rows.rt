@@ -1,6 +1,6 @@
 //! What the program prints of the rows that are closures.
 use crate::closures::holds;
-use crate::explanations::texts;
+use crate::texts;
 use loom::model::builder::Builder;
 use loom_examples::closures::rows::{ClosureRow, ROWS, named, run_row};
 use loom_examples::closures::tasks::run_asked;

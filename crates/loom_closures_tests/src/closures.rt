@@ -8,7 +8,6 @@ mod logs;
 mod printed;
 mod resumed;
 mod rows;
-mod walks;
 
 use loom::runner::exact::Exact;
 use loom_objects::data::Data;
