@@ -11,6 +11,7 @@ pub mod jobs;
 pub mod json;
 pub mod line;
 pub mod options;
+pub(crate) mod parted;
 pub mod settings;
 pub mod shares;
 pub mod tables;

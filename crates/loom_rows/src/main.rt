@@ -2,8 +2,8 @@
 //! given choices, and may keep a checkpoint in a file. The row's name is its first word but for options, and the file the next
 //! one, if there is one. The rows, the words and the printed lines stand in `loom_examples::rows`, and the rows that are closures
 //! in `loom_examples::closures`. A row of closures has the settings of the environment where neither the words nor the row name
-//! others. By `--tour` the program takes a first look at a row and at the bodies of `loom_examples`. By `--measure` it checks
-//! bodies again and again, and prints how long that took.
+//! others, and where its check's parts aren't files. By `--tour` the program takes a first look at a row and at the bodies of
+//! `loom_examples`. By `--measure` it checks bodies again and again, and prints how long that took.
 #![tactic(auto)]
 
 mod measuring;
@@ -76,13 +76,16 @@ fn run_options<R: Host + Files<File = File> + Clock + Env + Log + Sync, O: Write
     }
 }
 
-/// Checks a row of closures or walks through it, walks through another row with a log, or shares its check out. None of any other task.
+/// Shares a check out, checks a row of closures or walks through it, or walks through another row with a log. None of any other task.
 fn do_row<R: Host + Files<File = File> + Clock + Env + Log + Sync, O: Write, E: Write>(
     rt: &R,
     asked: RowAsked,
     out: &mut O,
     err: &mut E,
 ) -> io::Result<Option<u8>> {
+    if let Some(share) = asked.share {
+        return Ok(Some(shares::do_share(rt, share, asked, out, err)?));
+    }
     if let Some(row) = rows::named(asked.name) {
         let status = match Builder::from_process(rt) {
             Ok(builder) => run_asked(rt, rt, row, builder, asked, out, err)?,
@@ -92,9 +95,6 @@ fn do_row<R: Host + Files<File = File> + Clock + Env + Log + Sync, O: Write, E: 
     }
     if asked.walk.is_some() {
         return Ok(Some(words::run_asked(rt, rt, asked, out, err)?));
-    }
-    if let Some(share) = asked.share {
-        return Ok(Some(shares::do_share(rt, share, asked, out, err)?));
     }
     if let Some(count) = asked.jobs {
         return Ok(Some(jobs::check_row(rt, asked, count, out, err)?));

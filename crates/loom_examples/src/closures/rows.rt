@@ -14,17 +14,19 @@ use loom::checkpoint::file::file_store;
 use loom::explain::Explanation;
 use loom::model::builder::Builder;
 use loom::model::cover::Covered;
+use loom::model::parts::{Slice, Worked};
 use loom::model::rising::Risen;
 use loom::model::{Replay, Report, Shortened, Walk, Walked};
 use loom::runner::{
-    Handle, NoVisitor, RunnerError, Stop, check_rising, check_with, cover_recorded, explain,
-    replay, shorten, walk,
+    Found, Handle, Host, NoVisitor, RunnerError, Stop, Workers, check_parallel_recorded,
+    check_part_recorded, check_rising, check_with, cover_recorded, explain, replay, shorten, walk,
 };
-use loom::{Choice, HostClock};
+use loom::{Choice, Clock, HostClock};
+use loom_engine::rt::parts::{Part, Parts};
 use loom_ops::sync::atomic::Ordering::{Relaxed, Release};
 use std::alloc::{AllocError, Global};
 use std::io::{self, Write};
-use std::rt::{Clock, Files};
+use std::rt::{Clock as HostTime, Files};
 use std::sync::Wait;
 use std::thread::Threads;
 
@@ -146,7 +148,7 @@ impl ClosureRow {
 
     /// What a check of the row finds, by these settings and the host's clock. It goes on from the checkpoint file, and keeps its
     /// checkpoints there, if one is set.
-    pub fn check_by<R: Clock + Files + Threads + Wait + Clone + Send + 'static>(
+    pub fn check_by<R: HostTime + Files + Threads + Wait + Clone + Send + 'static>(
         self,
         rt: &R,
         alloc: Global,
@@ -156,7 +158,7 @@ impl ClosureRow {
     }
 
     /// What that check finds. It adds to the count how often it calls main.
-    pub fn check_counted<R: Clock + Files + Threads + Wait + Clone + Send + 'static>(
+    pub fn check_counted<R: HostTime + Files + Threads + Wait + Clone + Send + 'static>(
         self,
         rt: &R,
         alloc: Global,
@@ -198,7 +200,7 @@ impl ClosureRow {
     }
 
     /// What a check of the row finds that remembers states, at most so many, by these settings, the host's clock and the checkpoint file.
-    pub fn cover<R: Clock + Files + Threads + Wait + Clone + Send + 'static>(
+    pub fn cover<R: HostTime + Files + Threads + Wait + Clone + Send + 'static>(
         self,
         rt: &R,
         alloc: Global,
@@ -223,9 +225,61 @@ impl ClosureRow {
         )
     }
 
+    /// What several workers find of the row, by these settings, from this list of parts on.
+    pub(crate) fn check_parallel<R: Host + HostTime + Sync, C: Clock>(
+        self,
+        rt: &R,
+        alloc: Global,
+        builder: &Builder,
+        workers: Workers,
+        parts: &mut Parts,
+        clock: &mut C,
+    ) -> Result<Found, RunnerError> {
+        let mut is_first = true;
+        let main = |handle: &mut Handle<u64, R>| self.run_next(handle, &mut is_first);
+        let log = None::<HostRuntime>;
+        check_parallel_recorded(
+            rt,
+            alloc,
+            builder,
+            main,
+            workers,
+            parts,
+            &mut NoVisitor,
+            clock,
+            &log,
+        )
+    }
+
+    /// Makes runs of a part of the row's search, by these settings, and says what that came to.
+    pub(crate) fn check_part<R: Host, C: Clock>(
+        self,
+        rt: &R,
+        alloc: Global,
+        builder: &Builder,
+        part: &mut Part,
+        slice: Slice,
+        clock: &mut C,
+    ) -> Result<Worked, RunnerError> {
+        let mut is_first = true;
+        let main = |handle: &mut Handle<u64, R>| self.run_next(handle, &mut is_first);
+        let log = None::<HostRuntime>;
+        check_part_recorded(
+            rt,
+            alloc,
+            builder,
+            main,
+            part,
+            slice,
+            &mut NoVisitor,
+            clock,
+            &log,
+        )
+    }
+
     /// What a walk through runs of the row finds, by these settings and the host's clock.
     pub fn walk<
-        R: Clock + Threads + Wait + Clone + Send + 'static,
+        R: HostTime + Threads + Wait + Clone + Send + 'static,
         L: Log + Clone + Send + 'static,
     >(
         self,
@@ -337,7 +391,7 @@ pub fn named(name: &str) -> Option<ClosureRow> {
 /// prints the line of the report, and answers its status. Where there is no report, it prints which error came, and why, and the status
 /// is 2.
 pub fn run_row<
-    R: AllocGlobal + Clock + Files + Threads + Wait + Clone + Send + 'static,
+    R: AllocGlobal + HostTime + Files + Threads + Wait + Clone + Send + 'static,
     O: Write,
     E: Write,
 >(

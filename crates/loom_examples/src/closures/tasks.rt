@@ -1,11 +1,13 @@
-//! What the program does with a row of closures by its options: a check by other settings, with rising bounds or one that
-//! remembers states, a walk, one run by given choices, a shorter failure, an explanation of a failure, and a JSON object.
+//! What the program does with a row of closures by its options: a check by other settings, with rising bounds, by several workers or
+//! one that remembers states, a walk, one run by given choices, a shorter failure, an explanation of a failure, and a JSON object.
 use crate::closures::rows::{ClosureRow, refuse_run};
 use crate::rows::cover::{self, ShownCovered};
 use crate::rows::drawing::Drawing;
+use crate::rows::jobs;
 use crate::rows::json::{of_covered, of_replay, of_report, print_answer};
 use crate::rows::line::{self, ShownReport};
-use crate::rows::options::{RowAsked, Share};
+use crate::rows::options::RowAsked;
+use crate::rows::parted::Parted;
 use crate::rows::tasks::{ShownReplay, ShownRisen, Task};
 use crate::rows::walks::{SHORTENING_RUNS, failing_in, print_shortened, print_walked};
 use crate::rows::words::{refuse, refuse_choices};
@@ -15,7 +17,7 @@ use loom::model::cover::Covered;
 use loom::model::different::MOST_DIFFERENT;
 use loom::model::rising::Risen;
 use loom::model::{Replay, Report, Walk};
-use loom::runner::RunnerError;
+use loom::runner::{Host, RunnerError};
 use loom::{Choice, Choices};
 use std::alloc::Global;
 use std::io::{self, Write};
@@ -101,12 +103,7 @@ fn failing_choices(report: &Report) -> Option<&[Choice]> {
 
 /// Does what is asked of a row of closures, by the settings of this builder where neither the words nor the row name others. Prints what
 /// comes of it, and answers the exit status. The log hears of a walk.
-pub fn run_asked<
-    R: AllocGlobal + Clock + Files + Threads + Wait + Clone + Send + 'static,
-    L: Log + Clone + Send + 'static,
-    O: Write,
-    E: Write,
->(
+pub fn run_asked<R: Host + Clock + Sync, L: Log + Clone + Send + 'static, O: Write, E: Write>(
     rt: &R,
     log: &L,
     row: ClosureRow,
@@ -115,8 +112,8 @@ pub fn run_asked<
     out: &mut O,
     err: &mut E,
 ) -> io::Result<u8> {
-    if let Some(cause) = refusal(&asked) {
-        return refuse(err, cause);
+    if asked.share.is_some() {
+        return refuse(err, "error: only the program shares a check out");
     }
     let builder = row.builder_with(rt.alloc(), builder, asked.file)?;
     let mut builder = asked.changes.change(builder);
@@ -128,6 +125,10 @@ pub fn run_asked<
     if let Some(most_states) = asked.covers {
         return cover_through(rt, row, &builder, most_states, asked, out, err);
     }
+    if let Some(jobs) = asked.jobs {
+        let parted = Parted::Closures(row);
+        return jobs::check(rt, &builder, &parted, jobs, asked, out, err);
+    }
     let Some(text) = asked.replay else {
         let task = if asked.rises { Task::Rise } else { Task::Check };
         return do_task(rt, row, &builder, task, asked, out, err);
@@ -138,19 +139,6 @@ pub fn run_asked<
             do_task(rt, row, &builder, task, asked, out, err)
         }
         Err(error) => refuse_choices(rt.alloc(), text, error, err),
-    }
-}
-
-/// Why rows of closures don't take these words, if they don't.
-fn refusal(asked: &RowAsked) -> Option<&'static str> {
-    if asked.jobs.is_some() {
-        return Some("error: '--jobs' is for rows whose bodies are scripts");
-    }
-    match asked.share {
-        None => None,
-        Some(Share::Split(_, _)) => Some("error: '--split' is for rows whose bodies are scripts"),
-        Some(Share::Part(_)) => Some("error: '--part' is for rows whose bodies are scripts"),
-        Some(Share::Gather(_)) => Some("error: '--gather' is for rows whose bodies are scripts"),
     }
 }
 
@@ -278,6 +266,21 @@ fn tell<R: AllocGlobal + Files + Threads + Wait + Clone + Send + 'static, O: Wri
         }
         Ok(None) => Ok(()),
         Err(error) => writeln!(out, "{error}"),
+    }
+}
+
+/// Explains the report, where a run failed and that is asked for.
+pub(crate) fn explain_report<R: Host, O: Write>(
+    rt: &R,
+    row: ClosureRow,
+    builder: &Builder,
+    report: &Report,
+    asked: RowAsked,
+    out: &mut O,
+) -> io::Result<()> {
+    match failing_choices(report) {
+        Some(choices) => explain(rt, row, builder, choices, asked, out),
+        None => Ok(()),
     }
 }
 

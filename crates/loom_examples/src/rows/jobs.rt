@@ -1,24 +1,21 @@
 //! What the program does with a row by several workers: it checks it, and keeps the list of parts in the checkpoint file.
-use crate::bodies::updates::Updater;
 use crate::measured::row_or_body;
 use crate::rows::options::RowAsked;
+use crate::rows::parted::Parted;
 use crate::rows::settings::Builds;
-use crate::rows::tasks::explain_report;
 use crate::rows::words::refuse_name;
-use crate::rows::{Checked, all_rows, print_report, refuse_check};
-use crate::scripts::script::Script;
+use crate::rows::{all_rows, print_report};
 use loom::checkpoint::file::file_store;
 use loom::model::builder::Builder;
 use loom::model::error::CheckError;
 use loom::model::parts::Slice;
 use loom::model::{Limit, Report};
-use loom::runner::{Apart, Found, NoVisitor, Workers, check_parallel};
-use loom::{Body, CheckpointStore, Clock, HostClock};
+use loom::runner::{Found, Host, RunnerError, Workers};
+use loom::{CheckpointStore, Clock, HostClock};
 use loom_engine::rt::parts::Parts;
 use std::alloc::Global;
 use std::io::{self, Write};
-use std::rt::{Clock as HostTime, Files};
-use std::sync::Wait;
+use std::rt::Clock as HostTime;
 use std::thread::{self, Threads};
 use std::time::Duration;
 
@@ -30,7 +27,7 @@ const SAVE_MILLIS: u64 = 1000;
 
 /// Checks the row by so many workers, prints the line of the report, with the explanation of a failure below it if that is asked for,
 /// and answers the exit status. Zero workers are as many as the host has processors.
-pub fn check_row<R: AllocGlobal + HostTime + Files + Threads + Wait + Sync, O: Write, E: Write>(
+pub fn check_row<R: Host + HostTime + Sync, O: Write, E: Write>(
     rt: &R,
     asked: RowAsked,
     jobs: usize,
@@ -44,16 +41,27 @@ pub fn check_row<R: AllocGlobal + HostTime + Files + Threads + Wait + Sync, O: W
     let builder = asked
         .changes
         .change(row.settings.builder_with(rt.alloc(), asked.file)?);
-    let count = workers(rt, jobs);
-    match row.checked {
-        Checked::Script(steps) => {
-            let script = Script::new(rt.alloc(), steps)?;
-            check_body(rt, builder, &script, count, asked.explains, out, err)
+    let parted = Parted::of(rt.alloc(), row.checked)?;
+    check(rt, &builder, &parted, jobs, asked, out, err)
+}
+
+/// Checks this by so many workers, by this builder, prints what `check_row` does, and answers the exit status.
+pub(crate) fn check<R: Host + HostTime + Sync, O: Write, E: Write>(
+    rt: &R,
+    builder: &Builder,
+    parted: &Parted,
+    jobs: usize,
+    asked: RowAsked,
+    out: &mut O,
+    err: &mut E,
+) -> io::Result<u8> {
+    match find(rt, builder, parted, workers(rt, jobs)) {
+        Ok(report) => {
+            let status = print_report(out, &report)?;
+            parted.explain_report(rt, builder, &report, asked, out)?;
+            Ok(status)
         }
-        Checked::Updater(one, other) => {
-            let updater = Updater::main(one, other);
-            check_body(rt, builder, &updater, count, asked.explains, out, err)
-        }
+        Err(error) => parted.refuse(err, builder, error),
     }
 }
 
@@ -65,30 +73,6 @@ fn workers<R: Threads>(rt: &R, jobs: usize) -> usize {
     match thread::available_parallelism(rt) {
         Ok(count) => count.get(),
         Err(_) => 1,
-    }
-}
-
-fn check_body<
-    R: AllocGlobal + HostTime + Files + Threads + Wait + Sync,
-    B: Body<Data = u64> + Apart + Sync,
-    O: Write,
-    E: Write,
->(
-    rt: &R,
-    builder: Builder,
-    body: &B,
-    count: usize,
-    explains: bool,
-    out: &mut O,
-    err: &mut E,
-) -> io::Result<u8> {
-    match find(rt, &builder, body, count) {
-        Ok(report) => {
-            let status = print_report(out, &report)?;
-            explain_report(rt, &builder, body, &report, explains, out)?;
-            Ok(status)
-        }
-        Err(error) => refuse_check(err, &builder, error),
     }
 }
 
@@ -124,34 +108,20 @@ fn ended(found: Found, before: u64) -> Result<Report, (u64, Limit)> {
 
 // What the check finds. It begins with the checkpoint file, if there is one, and saves the list of parts there from time to time: once
 // as many runs as the interval were made since it was saved.
-fn find<
-    R: AllocGlobal + HostTime + Files + Threads + Wait + Sync,
-    B: Body<Data = u64> + Apart + Sync,
->(rt: &R, builder: &Builder, body: &B, count: usize) -> Result<Report, CheckError> {
-    let mut store = file_store(rt, rt.alloc(), &builder.checkpoint_file);
-    let mut parts = begin(rt.alloc(), builder, &mut store)?;
-    find_from(rt, builder, body, count, &mut parts, &mut store)
-}
-
-// What it finds from this list of parts on. The store saves it.
-fn find_from<
-    R: AllocGlobal + HostTime + Files + Threads + Wait + Sync,
-    B: Body<Data = u64> + Apart + Sync,
-    S: CheckpointStore,
->(
+fn find<R: Host + HostTime + Sync>(
     rt: &R,
     builder: &Builder,
-    body: &B,
+    parted: &Parted,
     count: usize,
-    parts: &mut Parts,
-    store: &mut S,
-) -> Result<Report, CheckError> {
+) -> Result<Report, RunnerError> {
+    let mut store = file_store(rt, rt.alloc(), &builder.checkpoint_file);
+    let mut parts = begin(rt.alloc(), builder, &mut store)?;
     let mut clock = HostClock::start(rt);
     let mut runs = 0u64;
     let mut saved = 0u64;
     for _ in rt.forever() {
         let stage = stage(builder, runs, clock.elapsed());
-        let found = find_in(rt, &stage, body, count, parts, &mut clock)?;
+        let found = parted.find(rt, &stage, timed_workers(count), &mut parts, &mut clock)?;
         let (now, limit) = match ended(found, runs) {
             Ok(report) => return Ok(report),
             Err(stopped) => stopped,
@@ -173,32 +143,6 @@ fn find_from<
         }
     }
     unreachable!()
-}
-
-// What a stage of the check finds.
-fn find_in<
-    R: AllocGlobal + HostTime + Threads + Wait + Sync,
-    B: Body<Data = u64> + Apart + Sync,
-    C: Clock,
->(
-    rt: &R,
-    stage: &Builder,
-    body: &B,
-    count: usize,
-    parts: &mut Parts,
-    clock: &mut C,
-) -> Result<Found, CheckError> {
-    check_parallel(
-        rt,
-        rt.alloc(),
-        stage,
-        body,
-        timed_workers(count),
-        parts,
-        &mut NoVisitor,
-        clock,
-        &None::<HostRuntime>,
-    )
 }
 
 // The list of parts that the store holds, or that of a check from its beginning.

@@ -4,27 +4,27 @@
 pub(crate) mod folder;
 pub(crate) mod listed;
 
-use crate::bodies::updates::Updater;
+use crate::closures::rows::named;
 use crate::measured::row_or_body;
 use crate::rows::changes::Changes;
 use crate::rows::options::{Asked, RowAsked, Share, read};
+use crate::rows::parted::Parted;
 use crate::rows::settings::Builds;
 use crate::rows::shares::folder::Folder;
 use crate::rows::shares::listed::{Listed, Sorted};
 use crate::rows::words::{refuse, refuse_name};
-use crate::rows::{Checked, all_rows, print_report, refuse_check};
-use crate::scripts::script::Script;
+use crate::rows::{all_rows, print_report};
 use loom::model::builder::Builder;
 use loom::model::error::CheckError;
 use loom::model::parts::{Slice, Worked};
 use loom::model::{Replay, Report};
-use loom::runner::NoVisitor;
-use loom::{Body, Choice, Choices, Failure, HostClock, NoClock, ShownChoices};
+use loom::runner::{Host, RunnerError};
+use loom::{Choice, Choices, Failure, HostClock, NoClock, ShownChoices};
 use loom_engine::rt::parts::Part;
 use std::alloc::{AllocError, Global};
 use std::fs::File;
 use std::io::{self, Write};
-use std::rt::{Clock, Files};
+use std::rt::{Clock as HostTime, Files};
 use std::time::Duration;
 
 const NO_FOLDER: &str = "error: the folder could not be written";
@@ -43,7 +43,7 @@ const ONE_RUN: Slice = Slice {
 
 /// Does this with the parts of a check in a folder, prints what comes of it, and answers the exit status: that of a report, or 3 where
 /// parts are open, and 2 where the words mean nothing, and where memory or a file fails.
-pub fn do_share<R: AllocGlobal + Clock + Files<File = File>, O: Write, E: Write>(
+pub fn do_share<R: Host + HostTime + Files<File = File>, O: Write, E: Write>(
     rt: &R,
     share: Share,
     asked: RowAsked,
@@ -74,7 +74,7 @@ pub fn do_share<R: AllocGlobal + Clock + Files<File = File>, O: Write, E: Write>
 }
 
 // Makes the folder of the check that was asked for, which has none yet, and splits the check.
-fn split_row<R: AllocGlobal + Clock + Files<File = File>, O: Write, E: Write>(
+fn split_row<R: Host + HostTime + Files<File = File>, O: Write, E: Write>(
     rt: &R,
     path: &str,
     wanted: usize,
@@ -95,7 +95,7 @@ fn split_row<R: AllocGlobal + Clock + Files<File = File>, O: Write, E: Write>(
 }
 
 // Works on the part of this number of a folder, alone and for so long at most.
-fn work_in<R: AllocGlobal + Clock + Files<File = File>, O: Write, E: Write>(
+fn work_in<R: Host + HostTime + Files<File = File>, O: Write, E: Write>(
     rt: &R,
     path: &str,
     number: &str,
@@ -174,7 +174,7 @@ fn add_number(
 }
 
 // Does the step with the row that the folder names.
-fn with_folder<R: AllocGlobal + Clock + Files<File = File>, O: Write, E: Write>(
+fn with_folder<R: Host + HostTime + Files<File = File>, O: Write, E: Write>(
     rt: &R,
     folder: &Folder<R>,
     step: Step,
@@ -205,7 +205,7 @@ fn with_folder<R: AllocGlobal + Clock + Files<File = File>, O: Write, E: Write>(
 }
 
 // Does the step with the row that was asked for.
-fn with_row<R: AllocGlobal + Clock + Files<File = File>, O: Write, E: Write>(
+fn with_row<R: Host + HostTime + Files<File = File>, O: Write, E: Write>(
     rt: &R,
     folder: &Folder<R>,
     step: Step,
@@ -213,6 +213,10 @@ fn with_row<R: AllocGlobal + Clock + Files<File = File>, O: Write, E: Write>(
     out: &mut O,
     err: &mut E,
 ) -> io::Result<u8> {
+    if let Some(row) = named(asked.name) {
+        let builder = asked.changes.change(row.builder());
+        return do_step(rt, folder, step, &builder, &Parted::Closures(row), out, err);
+    }
     let Some(row) = row_or_body(rt.alloc(), asked.name)? else {
         let rows = all_rows(rt.alloc())?;
         return refuse_name(rt.alloc(), rows.as_slice(), asked.name, err);
@@ -220,22 +224,40 @@ fn with_row<R: AllocGlobal + Clock + Files<File = File>, O: Write, E: Write>(
     let builder = asked
         .changes
         .change(row.settings.builder_with(rt.alloc(), None)?);
-    let came = match row.checked {
-        Checked::Script(steps) => {
-            let script = Script::new(rt.alloc(), steps)?;
-            with_body(rt, folder, step, &builder, &script)
-        }
-        Checked::Updater(one, other) => {
-            with_body(rt, folder, step, &builder, &Updater::main(one, other))
-        }
+    let parted = Parted::of(rt.alloc(), row.checked)?;
+    do_step(rt, folder, step, &builder, &parted, out, err)
+}
+
+// Does the step, prints what came of it, and answers the exit status.
+fn do_step<R: Host + HostTime + Files<File = File>, O: Write, E: Write>(
+    rt: &R,
+    folder: &Folder<R>,
+    step: Step,
+    builder: &Builder,
+    parted: &Parted,
+    out: &mut O,
+    err: &mut E,
+) -> io::Result<u8> {
+    let came = match step {
+        Step::Split(wanted) => split(rt, folder, builder, parted, wanted),
+        Step::Part(number) => work_on(rt, folder, builder, parted, number),
+        Step::Gather => gather(rt, folder, builder, parted),
     };
     match came {
-        Ok(Came::Open(count)) => {
+        Ok(came) => print_came(&came, out),
+        Err(error) => parted.refuse(err, builder, error),
+    }
+}
+
+// Prints what came of a step, and answers the exit status.
+fn print_came<O: Write>(came: &Came, out: &mut O) -> io::Result<u8> {
+    match came {
+        Came::Open(count) => {
             writeln!(out, "{count} parts open")?;
             Ok(OPEN)
         }
-        Ok(Came::Worked(runs, is_done)) => {
-            let left = if is_done {
+        Came::Worked(runs, is_done) => {
+            let left = if *is_done {
                 "nothing is left"
             } else {
                 "some are left"
@@ -243,55 +265,41 @@ fn with_row<R: AllocGlobal + Clock + Files<File = File>, O: Write, E: Write>(
             writeln!(out, "{runs} runs, {left}")?;
             Ok(0)
         }
-        Ok(Came::Found(report)) => print_report(out, &report),
-        Err(error) => refuse_check(err, &builder, error),
-    }
-}
-
-fn with_body<R: AllocGlobal + Clock + Files<File = File>, B: Body<Data = u64>>(
-    rt: &R,
-    folder: &Folder<R>,
-    step: Step,
-    builder: &Builder,
-    body: &B,
-) -> Result<Came, CheckError> {
-    match step {
-        Step::Split(wanted) => split(rt.alloc(), folder, builder, body, wanted),
-        Step::Part(number) => work_on(rt, folder, builder, body, number),
-        Step::Gather => gather(rt.alloc(), folder, builder, body),
+        Came::Found(report) => print_report(out, report),
     }
 }
 
 // A run at a time is made until there are so many parts.
-fn split<R: AllocGlobal + Files, B: Body<Data = u64>>(
-    alloc: Global,
+fn split<R: Host>(
+    rt: &R,
     folder: &Folder<R>,
     builder: &Builder,
-    body: &B,
+    parted: &Parted,
     wanted: usize,
-) -> Result<Came, CheckError> {
+) -> Result<Came, RunnerError> {
+    let alloc = rt.alloc();
     let mut listed = Listed::new(alloc, wanted, builder.parts(alloc)?)?;
-    match make_runs(alloc, builder, body, &mut listed)? {
+    match make_runs(rt, builder, parted, &mut listed)? {
         Some(report) => Ok(Came::Found(report)),
-        None => write_out(alloc, folder, &listed),
+        None => Ok(write_out(alloc, folder, &listed)?),
     }
 }
 
 // Makes a run at a time of the first part, until there are as many as are wanted, or none. Answers the report if one fails.
-fn make_runs<B: Body<Data = u64>>(
-    alloc: Global,
+fn make_runs<R: Host>(
+    rt: &R,
     builder: &Builder,
-    body: &B,
+    parted: &Parted,
     listed: &mut Listed,
-) -> Result<Option<Report>, CheckError> {
+) -> Result<Option<Report>, RunnerError> {
     for _ in 0..MOST_RUNS {
         if listed.parts.is_over() || listed.parts.len() >= listed.wanted {
             break;
         }
-        let Some(mut part) = listed.parts.take(alloc, 0)? else {
+        let Some(mut part) = listed.parts.take(rt.alloc(), 0)? else {
             continue;
         };
-        match make_run(alloc, builder, body, &mut part)? {
+        match make_run(rt, builder, parted, &mut part)? {
             Some((failure, choices)) => {
                 let runs = listed.parts.runs;
                 return Ok(Some(Report::Failed {
@@ -301,7 +309,7 @@ fn make_runs<B: Body<Data = u64>>(
                 }));
             }
             None => {
-                listed.take_one_back(alloc, part)?;
+                listed.take_one_back(rt.alloc(), part)?;
             }
         }
     }
@@ -309,13 +317,13 @@ fn make_runs<B: Body<Data = u64>>(
 }
 
 // Makes a run of the part. Answers how it fails, and its choices, if it does.
-fn make_run<B: Body<Data = u64>>(
-    alloc: Global,
+fn make_run<R: Host>(
+    rt: &R,
     builder: &Builder,
-    body: &B,
+    parted: &Parted,
     part: &mut Part,
-) -> Result<Option<(Failure, Vec<Choice>)>, CheckError> {
-    match builder.check_part(alloc, body, part, ONE_RUN, &mut NoVisitor, &mut NoClock)? {
+) -> Result<Option<(Failure, Vec<Choice>)>, RunnerError> {
+    match parted.work_on(rt, builder, part, ONE_RUN, &mut NoClock)? {
         Worked::Made { .. } => Ok(None),
         Worked::Failed {
             runs: _,
@@ -326,26 +334,26 @@ fn make_run<B: Body<Data = u64>>(
 }
 
 // Works on the part of this number until nothing is left of it or the time is over, and writes what came of it.
-fn work_on<R: AllocGlobal + Clock + Files, B: Body<Data = u64>>(
+fn work_on<R: Host + HostTime>(
     rt: &R,
     folder: &Folder<R>,
     builder: &Builder,
-    body: &B,
+    parted: &Parted,
     number: &str,
-) -> Result<Came, CheckError> {
+) -> Result<Came, RunnerError> {
     let alloc = rt.alloc();
     if let Some(part) = part_in(alloc, folder, builder, number, "done")? {
         return Ok(Came::Worked(part.runs, part.is_done));
     }
     let Some(mut part) = part_in(alloc, folder, builder, number, "part")? else {
-        return Err(CheckError::Store);
+        return Err(RunnerError::Settings(CheckError::Store));
     };
     let slice = Slice {
         runs: u64::MAX,
         until: builder.max_duration,
     };
     let mut clock = HostClock::start(rt);
-    match builder.check_part(alloc, body, &mut part, slice, &mut NoVisitor, &mut clock)? {
+    match parted.work_on(rt, builder, &mut part, slice, &mut clock)? {
         Worked::Made { runs } => {
             let name = format!(in alloc; "{number}.done")?;
             let text = part.to_text(alloc)?;
@@ -371,38 +379,40 @@ fn work_on<R: AllocGlobal + Clock + Files, B: Body<Data = u64>>(
 }
 
 // Takes back what was worked on. Where nothing is left, or a run failed, that is what the check found.
-fn gather<R: AllocGlobal + Files, B: Body<Data = u64>>(
-    alloc: Global,
+fn gather<R: Host>(
+    rt: &R,
     folder: &Folder<R>,
     builder: &Builder,
-    body: &B,
-) -> Result<Came, CheckError> {
+    parted: &Parted,
+) -> Result<Came, RunnerError> {
+    let alloc = rt.alloc();
     let Some(text) = folder.read("list")? else {
-        return Err(CheckError::Store);
+        return Err(RunnerError::Settings(CheckError::Store));
     };
     let Ok(text) = str::from_utf8(text.as_slice()) else {
-        return Err(CheckError::WrongShape);
+        return Err(RunnerError::Settings(CheckError::WrongShape));
     };
     let mut listed = Listed::from_text(alloc, builder, text)?;
     let mut sorted = Sorted::new(alloc);
-    match sort(alloc, folder, builder, body, &listed, &mut sorted)? {
+    match sort(rt, folder, builder, parted, &listed, &mut sorted)? {
         Some(report) => Ok(Came::Found(report)),
-        None => take_back(alloc, folder, &mut listed, sorted),
+        None => Ok(take_back(alloc, folder, &mut listed, sorted)?),
     }
 }
 
 // Sorts the parts of the list by whether they came back. Answers the report if a run of one failed.
-fn sort<R: AllocGlobal + Files, B: Body<Data = u64>>(
-    alloc: Global,
+fn sort<R: Host>(
+    rt: &R,
     folder: &Folder<R>,
     builder: &Builder,
-    body: &B,
+    parted: &Parted,
     listed: &Listed,
     sorted: &mut Sorted,
-) -> Result<Option<Report>, CheckError> {
+) -> Result<Option<Report>, RunnerError> {
+    let alloc = rt.alloc();
     for place in 0..listed.numbers.len().min(listed.parts.list.len()) {
         let number = listed.numbers[place];
-        let failed = failure_of(alloc, folder, builder, body, number, listed.parts.runs)?;
+        let failed = failure_of(rt, folder, builder, parted, number, listed.parts.runs)?;
         if failed.is_some() {
             return Ok(failed);
         }
@@ -429,31 +439,32 @@ fn take_back<R: AllocGlobal + Files>(
 }
 
 // What a part's run that failed makes of the check: it is made again by its choices.
-fn failure_of<R: AllocGlobal + Files, B: Body<Data = u64>>(
-    alloc: Global,
+fn failure_of<R: Host>(
+    rt: &R,
     folder: &Folder<R>,
     builder: &Builder,
-    body: &B,
+    parted: &Parted,
     number: u64,
     runs: u64,
-) -> Result<Option<Report>, CheckError> {
+) -> Result<Option<Report>, RunnerError> {
+    let alloc = rt.alloc();
     let name = format!(in alloc; "{number}.failed")?;
     let Some(text) = folder.read(name.as_str())? else {
         return Ok(None);
     };
     let Ok(text) = str::from_utf8(text.as_slice()) else {
-        return Err(CheckError::WrongShape);
+        return Err(RunnerError::Settings(CheckError::WrongShape));
     };
     let Ok(choices) = Choices::parse(alloc, text) else {
-        return Err(CheckError::WrongShape);
+        return Err(RunnerError::Settings(CheckError::WrongShape));
     };
-    match builder.replay(alloc, body, choices.as_slice())? {
+    match parted.replay(rt, builder, choices.as_slice())? {
         Replay::Failed { failure, choices } => Ok(Some(Report::Failed {
             runs,
             failure,
             choices,
         })),
-        Replay::Ended { .. } => Err(CheckError::WrongShape),
+        Replay::Ended { .. } => Err(RunnerError::Settings(CheckError::WrongShape)),
     }
 }
 
