@@ -8,6 +8,7 @@ mod logs;
 mod printed;
 mod resumed;
 mod rows;
+mod shared;
 
 use loom::runner::exact::Exact;
 use loom_objects::data::Data;

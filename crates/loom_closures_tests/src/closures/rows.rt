@@ -2,6 +2,7 @@
 use crate::closures::holds;
 use crate::texts;
 use loom::model::builder::Builder;
+use loom::runner::Host;
 use loom_examples::closures::rows::{ClosureRow, ROWS, named, run_row};
 use loom_examples::closures::tasks::run_asked;
 use loom_examples::rows::options::{Asked, read};
@@ -108,11 +109,8 @@ fn words_that_mean_a_row(rt: HostRuntime) {
 const NO_THREAD: &str =
     "usage: loom_rows NAME [FILE]\nerror: invalid value 't9 l0' for '--replay <CHOICES>': word 1 is no choice: a choice is `t0` to `t4` or `t-`, `l0` to `l6`, `s0` or `s1`, with a space between two\n\nFor the options try '--help', and for the names '--list'.\n";
 
-const NO_JOBS: &str =
-    "usage: loom_rows NAME [FILE]\nerror: '--jobs' is for rows whose bodies are scripts\n\nFor the options try '--help', and for the names '--list'.\n";
-
 const NO_SPLIT: &str =
-    "usage: loom_rows NAME [FILE]\nerror: '--split' is for rows whose bodies are scripts\n\nFor the options try '--help', and for the names '--list'.\n";
+    "usage: loom_rows NAME [FILE]\nerror: only the program shares a check out\n\nFor the options try '--help', and for the names '--list'.\n";
 
 /// What words with options ask for, what is printed of it on standard output and on standard error, and the status. It is what is printed
 /// of any other row.
@@ -123,7 +121,7 @@ struct Said {
     status: u8,
 }
 
-static SAID: [Said; 17] = [
+static SAID: [Said; 19] = [
     Said {
         words: &["--explain", "relaxed_ring_closures"],
         out: texts::relaxed_ring_closures::TEXT,
@@ -144,9 +142,21 @@ static SAID: [Said; 17] = [
     },
     Said {
         words: &["--jobs", "2", "lock_beside_closures"],
-        out: "",
-        err: NO_JOBS,
-        status: 2,
+        out: "complete 3\n",
+        err: "",
+        status: 0,
+    },
+    Said {
+        words: &["--jobs", "3", "store_buffering_closures"],
+        out: "complete 30\n",
+        err: "",
+        status: 0,
+    },
+    Said {
+        words: &["--jobs", "2", "guard_left_closures"],
+        out: "failed 2 0 t0 t1 t-\n",
+        err: "",
+        status: 1,
     },
     Said {
         words: &["--split", "parts", "4", "lock_beside_closures"],
@@ -234,10 +244,7 @@ static SAID: [Said; 17] = [
 ];
 
 /// Whether the words come to that.
-fn is_said<R: AllocGlobal + Clock + Files + Threads + Wait + Clone + Send + 'static>(
-    rt: &R,
-    said: &Said,
-) -> io::Result<bool> {
+fn is_said<R: Host + Clock + Sync>(rt: &R, said: &Said) -> io::Result<bool> {
     let mut out = Vec::new(rt.alloc());
     let mut err = Vec::new(rt.alloc());
     let status = match read(rt.alloc(), said.words) {
@@ -254,8 +261,7 @@ fn is_said<R: AllocGlobal + Clock + Files + Threads + Wait + Clone + Send + 'sta
     )
 }
 
-/// A row of closures takes the options that any other row takes, and names those that it doesn't. By `--cover` it prints what the body
-/// of the same name does.
+/// A row of closures takes the options that any other row takes. By `--cover` it prints what the body of the same name does.
 #[test]
 fn rows_take_all_options(rt: HostRuntime) -> Result<(), Fail> {
     for said in &SAID {
