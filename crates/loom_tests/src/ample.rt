@@ -35,6 +35,20 @@ const VERSIONS: u64 = 65_534;
 /// More than a thousand of what has no limit of its own.
 const MANY: u64 = 2000;
 
+// Whether the run answers the operation so.
+macro_rules! answers {
+    ($run:expr, $op:expr, $so:pat $(if $holds:expr)?) => {
+        match $run.reply($op) {
+            Some(reply) => {
+                let is_so = matches!(&reply, $so $(if $holds)?);
+                reply.let_go();
+                is_so
+            }
+            None => false,
+        }
+    };
+}
+
 /// A run of main, and the path of its choices.
 #[derive(Drop)]
 struct Run {
@@ -61,22 +75,23 @@ impl Run {
     }
 
     fn is_done(&mut self, op: Op<u64, ()>) -> bool {
-        matches!(self.reply(op), Some(Reply::Done))
+        answers!(self, op, Reply::Done)
     }
 
     fn gives(&mut self, op: Op<u64, ()>, value: u64) -> bool {
-        matches!(self.reply(op), Some(Reply::Data(given)) if given == value)
+        answers!(self, op, Reply::Data(given) if *given == value)
     }
 
     fn is_answered(&mut self, op: Op<u64, ()>) -> bool {
-        self.reply(op).is_some()
+        answers!(self, op, _)
     }
 
     // Whether the operation fails the run so.
     fn fails(&mut self, op: Op<u64, ()>, kind: FailureKind) -> bool {
         match self.execution.submit(&mut self.path, op.request) {
             Err(Stop::Failure(failure)) => failure.kind == kind,
-            Err(Stop::Memory) | Ok(_) => false,
+            Err(Stop::Memory) => false,
+            Ok(turn) => goes_on(turn),
         }
     }
 
@@ -94,9 +109,18 @@ impl Run {
         let end: Op<u64, ()> = thread::end();
         match self.execution.submit(&mut self.path, end.request) {
             Ok(Turn::Ended(result)) => is_left && result == value && self.has_nodes(nodes),
-            Ok(Turn::Reply(_, _) | Turn::Start(_)) | Err(_) => false,
+            Ok(turn) => goes_on(turn),
+            Err(_) => false,
         }
     }
+
+    // Drops the run, with all that it holds.
+    fn let_go(self) {}
+}
+
+// That a run went on is no failure.
+fn goes_on(_turn: Turn<u64>) -> bool {
+    false
 }
 
 // The ends of the numbers that name a value, and those about the thousandth.
@@ -109,6 +133,7 @@ fn a_local_has_any_key(rt: HostRuntime) {
         local_is_used(&rt, &mut run, LocalKey::new(key));
     }
     holds(&rt, run.ends(7, 1), "main ends with its values");
+    run.let_go();
 }
 
 #[test]
@@ -118,6 +143,7 @@ fn a_lazy_value_has_any_key(rt: HostRuntime) {
         lazy_is_used(&rt, &mut run, Lazy::new(key));
     }
     holds(&rt, run.ends(7, 1), "main ends with the values");
+    run.let_go();
 }
 
 fn local_is_used(rt: &impl Abort, run: &mut Run, key: LocalKey) {
@@ -130,7 +156,7 @@ fn local_is_used(rt: &impl Abort, run: &mut Run, key: LocalKey) {
 fn lazy_is_used(rt: &impl Abort, run: &mut Run, key: Lazy) {
     holds(rt, run.gives(key.init(5), 5), "a lazy value is made");
     holds(rt, run.gives(key.get(), 5), "a lazy value is read");
-    let stood = matches!(run.reply(key.init(6)), Some(Reply::Stood(5, 6)));
+    let stood = answers!(run, key.init(6), Reply::Stood(5, 6));
     holds(rt, stood, "a lazy value stands");
 }
 
@@ -142,8 +168,9 @@ fn all_locals_are_given_back(rt: HostRuntime) {
         holds(&rt, run.gives(key.init(number), number), "a local more");
     }
     holds(&rt, run.is_answered(thread::finish(7)), "main finishes");
-    let locals = run.reply(thread::exit());
-    holds(&rt, are_all_locals(&locals), "the locals");
+    let is_back = answers!(run, thread::exit(), reply if are_all_locals(reply));
+    holds(&rt, is_back, "the locals");
+    run.let_go();
 }
 
 #[test]
@@ -157,13 +184,14 @@ fn all_lazy_values_are_given_back(rt: HostRuntime) {
             "a lazy value more",
         );
     }
-    let lazies = run.reply(thread::finish(7));
-    holds(&rt, are_all_lazies(&lazies), "the lazy values");
+    let is_back = answers!(run, thread::finish(7), reply if are_all_lazies(reply));
+    holds(&rt, is_back, "the lazy values");
+    run.let_go();
 }
 
-fn are_all_lazies(reply: &Option<Reply<u64>>) -> bool {
+fn are_all_lazies(reply: &Reply<u64>) -> bool {
     match reply {
-        Some(Reply::Lazies(lazies)) => {
+        Reply::Lazies(lazies) => {
             let lazies = lazies.as_slice();
             lazies.len() == MANY as usize
                 && (0..MANY)
@@ -174,9 +202,9 @@ fn are_all_lazies(reply: &Option<Reply<u64>>) -> bool {
     }
 }
 
-fn are_all_locals(reply: &Option<Reply<u64>>) -> bool {
+fn are_all_locals(reply: &Reply<u64>) -> bool {
     match reply {
-        Some(Reply::Locals(locals)) => {
+        Reply::Locals(locals) => {
             let locals = locals.as_slice();
             locals.len() == MANY as usize
                 && (0..MANY)
@@ -198,14 +226,15 @@ fn all_messages_are_given_back(rt: HostRuntime) {
     for number in 0..MESSAGES {
         holds(&rt, run.is_done(sender.send(number)), "a message more");
     }
-    let left = run.reply(receiver.drop());
-    holds(&rt, are_all_messages(&left), "the messages");
+    let is_back = answers!(run, receiver.drop(), reply if are_all_messages(reply));
+    holds(&rt, is_back, "the messages");
     holds(&rt, run.ends(7, 999), "main ends without the receiver");
+    run.let_go();
 }
 
-fn are_all_messages(reply: &Option<Reply<u64>>) -> bool {
+fn are_all_messages(reply: &Reply<u64>) -> bool {
     match reply {
-        Some(Reply::Messages(left)) => {
+        Reply::Messages(left) => {
             left.len() == MESSAGES as usize
                 && (0..MESSAGES)
                     .zip(left)
@@ -224,18 +253,15 @@ fn a_thread_has_a_guard_at_each_node(rt: HostRuntime) {
     let lock = RwLock { number: 0 };
     holds(&rt, run.is_answered(RwLock::new(3)), "a lock");
     for _ in 0..NODES {
-        let read = run.reply(lock.read());
-        holds(
-            &rt,
-            matches!(read, Some(Reply::ReadLocked(0, 3))),
-            "a guard more",
-        );
+        let is_read = answers!(run, lock.read(), Reply::ReadLocked(0, 3));
+        holds(&rt, is_read, "a guard more");
     }
     for _ in 0..NODES {
         let guard = RwLockReadGuard { number: 0 };
         holds(&rt, run.is_done(guard.release()), "a guard less");
     }
     holds(&rt, run.ends(7, 1000), "main ends without a guard");
+    run.let_go();
 }
 
 #[test]
@@ -244,15 +270,12 @@ fn a_thread_has_a_read_open_at_each_version(rt: HostRuntime) {
     let cell = UnsafeCell { number: 0 };
     holds(&rt, run.is_answered(UnsafeCell::new(3)), "a cell");
     for _ in 0..VERSIONS {
-        let read = run.reply(cell.get());
-        holds(
-            &rt,
-            matches!(read, Some(Reply::Reading(0, 3))),
-            "a read more",
-        );
+        let is_open = answers!(run, cell.get(), Reply::Reading(0, 3));
+        holds(&rt, is_open, "a read more");
     }
     let is_last = run.fails(cell.get(), FailureKind::TooManyVersions);
     holds(&rt, is_last, "a read too many");
+    run.let_go();
 }
 
 #[test]
@@ -267,6 +290,7 @@ fn the_last_version_makes_what_others_make(rt: HostRuntime) {
     holds(&rt, run.gives(Lazy::new(1).init(5), 5), "a lazy value");
     let is_last = run.fails(thread::spawn(()), FailureKind::TooManyVersions);
     holds(&rt, is_last, "a thread too many");
+    run.let_go();
 }
 
 fn objects_are_made(rt: &impl Abort, run: &mut Run) {
@@ -294,23 +318,19 @@ fn others_are_made(rt: &impl Abort, run: &mut Run) {
 fn a_run_has_many_objects(rt: HostRuntime) {
     let mut run = Run::new(&rt);
     for number in 0..MANY {
-        let made = run.reply(Mutex::new(number));
-        let is_made = matches!(made, Some(Reply::Mutex(at)) if at == number as usize);
+        let is_made = answers!(run, Mutex::new(number), Reply::Mutex(at) if *at == number as usize);
         holds(&rt, is_made, "a mutex more");
     }
     let (last, guard) = (Mutex { number: 1999 }, MutexGuard { number: 1999 });
-    let locked = run.reply(last.lock());
-    holds(
-        &rt,
-        matches!(locked, Some(Reply::Locked(1999, 1999))),
-        "the last one is locked",
-    );
+    let is_locked = answers!(run, last.lock(), Reply::Locked(1999, 1999));
+    holds(&rt, is_locked, "the last one is locked");
     holds(
         &rt,
         run.is_done(guard.release(1)),
         "the last one is released",
     );
     holds(&rt, run.ends(7, 2), "main ends with its objects");
+    run.let_go();
 }
 
 #[test]
@@ -321,10 +341,7 @@ fn a_count_is_as_high_as_it_was_raised(rt: HostRuntime) {
     for _ in 1..NODES {
         holds(&rt, run.is_answered(arc.clone()), "a reference more");
     }
-    let counted = run.reply(arc.strong_count());
-    holds(
-        &rt,
-        matches!(counted, Some(Reply::Value(count)) if count == NODES),
-        "the count",
-    );
+    let is_counted = answers!(run, arc.strong_count(), Reply::Value(count) if *count == NODES);
+    holds(&rt, is_counted, "the count");
+    run.let_go();
 }
