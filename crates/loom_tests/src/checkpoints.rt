@@ -233,6 +233,9 @@ fn read_back(rt: &(impl Abort + AllocGlobal), path: &Path) -> Path {
     from_text(rt.alloc(), text.as_str().as_bytes(), path.search()).expect(rt, "no path")
 }
 
+// Drops the path, with all its nodes.
+fn let_go(_path: Path) {}
+
 #[test]
 fn paths_are_told_apart(rt: HostRuntime) {
     let mut path = Path::new(rt.alloc(), WHOLE);
@@ -246,6 +249,8 @@ fn paths_are_told_apart(rt: HostRuntime) {
     );
     holds(&rt, path == same_search, "another path of the same search");
     holds(&rt, path != other_search, "the same path of another search");
+    let_go(same_search);
+    let_go(other_search);
     holds(&rt, path.branch_spurious().is_ok(), "no node is made");
     // What is read back has passed no node yet.
     let read = read_back(&rt, &path);
@@ -253,8 +258,11 @@ fn paths_are_told_apart(rt: HostRuntime) {
     // The node takes its other answer, and the path is at its start too.
     holds(&rt, path.step(), "no other answer");
     holds(&rt, read != path, "the answer is the first one");
+    let_go(read);
     let read = read_back(&rt, &path);
     holds(&rt, read == path, "another path is read back");
+    let_go(read);
+    let_go(path);
 }
 
 // What stands before a node that comes after the first of the two, and what stands behind it.

@@ -1,12 +1,11 @@
 //! The runs in which the calls of the tables are made.
-use crate::asserting::{holds, same};
+use crate::asserting::same;
 use crate::calls::answer::put_answer;
 use crate::calls::{atomics, cells, channels, counts, exchanges, locks, threads, values, wakers};
 use loom::rt::execution::{Execution, Limits};
 use loom::rt::path::{Path, Search};
 use loom::{Numeric, Op};
 use loom_testing::page::Page;
-use std::alloc::AllocError;
 use std::fmt::Debug;
 use std::process::Abort;
 
@@ -60,11 +59,13 @@ impl Kind {
 /// Makes the calls of a run of main, and of one thread more where main spawns it, where atomics hold a `T`. Each comes to what
 /// its row says.
 pub fn make<T: Numeric + Debug + Drop, R: Abort + AllocGlobal>(rt: &R, kind: Kind, rows: &[Row]) {
-    match &mut Execution::new(rt.alloc(), LIMITS) {
-        Ok(execution) => make_in::<T, R>(rt, execution, kind, rows),
-        Err(AllocError) => holds(rt, false, "no memory for a run"),
-    }
+    let mut execution = Execution::new(rt.alloc(), LIMITS).expect(rt, "no memory for a run");
+    make_in::<T, R>(rt, &mut execution, kind, rows);
+    let_go(execution);
 }
+
+// Drops the run, with all that it holds.
+fn let_go(_execution: Execution<u64>) {}
 
 // Makes the calls of these rows in this run.
 fn make_in<T: Numeric + Debug + Drop, R: Abort + AllocGlobal>(
