@@ -30,7 +30,6 @@ use crate::rt::ranks::{Ranks, Standing};
 use crate::rt::synchronize::{Synchronize, ThreadViews};
 use crate::rt::vv::{VersionVec, mixed};
 use crate::same::{Same, are_same};
-use std::alloc::AllocError;
 use std::sync::atomic::Ordering;
 
 /// For each thread, its own version when it first touched a store (loom's `rt/atomic.rs`).
@@ -604,9 +603,9 @@ impl Same for State {
 }
 
 impl FirstSeen {
-    /// Their counts stand too. An error where memory is refused.
-    fn stand(&self, standing: &mut Standing) -> Result<(), AllocError> {
-        self.versions.stand(standing)
+    /// Their counts stand too.
+    fn stand(&self, standing: &mut Standing) {
+        self.versions.stand(standing);
     }
 
     /// First touches by ranks, if each count has one.
@@ -620,11 +619,11 @@ impl FirstSeen {
 }
 
 impl Store {
-    /// Its counts stand too. An error where memory is refused.
-    fn stand(&self, standing: &mut Standing) -> Result<(), AllocError> {
-        standing.add_all(&self.order)?;
-        self.sync.stand(standing)?;
-        self.first_seen.stand(standing)
+    /// Its counts stand too.
+    fn stand(&self, standing: &mut Standing) {
+        standing.add_all(&self.order);
+        self.sync.stand(standing);
+        self.first_seen.stand(standing);
     }
 
     /// The store by ranks, if each count has one.
@@ -661,16 +660,15 @@ fn ranked_stores(
 }
 
 impl State {
-    /// Its counts stand too. An error where memory is refused (own).
-    pub fn stand(&self, standing: &mut Standing) -> Result<(), AllocError> {
-        standing.add_all(&self.loaded_at)?;
-        standing.add_all(&self.stored_at)?;
-        standing.add_all(&self.unsync_loaded_at)?;
-        standing.add_all(&self.unsync_mut_at)?;
+    /// Its counts stand too (own).
+    pub fn stand(&self, standing: &mut Standing) {
+        standing.add_all(&self.loaded_at);
+        standing.add_all(&self.stored_at);
+        standing.add_all(&self.unsync_loaded_at);
+        standing.add_all(&self.unsync_mut_at);
         for store in self.stores.as_slice() {
-            store.stand(standing)?;
+            store.stand(standing);
         }
-        Ok(())
     }
 
     /// The atomic by ranks, if each count has one (own).

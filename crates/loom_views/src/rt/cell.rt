@@ -13,7 +13,6 @@ use crate::rt::ranks::{Ranks, Standing};
 use crate::rt::synchronize::ThreadViews;
 use crate::rt::vv::{VersionVec, mixed};
 use crate::same::Same;
-use std::alloc::AllocError;
 
 /// The joined views of a cell's reads, and those of its writes (loom's `rt/cell.rs`).
 #[derive(Clone, Copy)]
@@ -69,10 +68,10 @@ impl Same for AccessRecords {
 }
 
 impl AccessRecords {
-    /// Their counts stand too. An error where memory is refused (own).
-    pub fn stand(&self, standing: &mut Standing) -> Result<(), AllocError> {
-        standing.add_all(&self.reads)?;
-        standing.add_all(&self.writes)
+    /// Their counts stand too (own).
+    pub fn stand(&self, standing: &mut Standing) {
+        standing.add_all(&self.reads);
+        standing.add_all(&self.writes);
     }
 
     /// The records by ranks, if each count has one (own).

@@ -11,64 +11,74 @@ use crate::sequence::Sequence;
 use std::alloc::{AllocError, Global};
 use std::marker::Model;
 
-/// Which counts of each thread stand somewhere in some views (own).
+// counts below this have ranks
+const RANKED: usize = 512;
+
+// of each thread as many
+const PLACES: usize = 2560;
+
+/// Which counts of each thread stand somewhere in some views, of those below 512 (own).
 #[derive(Drop)]
 pub struct Standing {
-    threads: Vec<Vec<bool>>,
-    alloc: Global,
+    // those of one thread behind those of the thread before it
+    stands: [bool; PLACES],
+    // none stands from here on
+    end: usize,
 }
 
 impl Standing {
-    /// The count 0 of each thread, which stands wherever nothing has come. An error where memory is refused (own).
-    pub fn new(alloc: Global) -> Result<Standing, AllocError> {
-        let mut threads = Vec::new(alloc);
-        for _ in 0..MAX_THREADS {
-            let mut counts = Vec::new(alloc);
-            counts.push(true)?;
-            threads.push(counts)?;
+    /// The count 0 of each thread, which stands wherever nothing has come (own).
+    pub fn new() -> Standing {
+        let mut standing = Standing {
+            stands: [false; PLACES],
+            end: 0,
+        };
+        for thread in 0..MAX_THREADS {
+            standing.add(thread, 0);
         }
-        Ok(Standing { threads, alloc })
+        standing
     }
 
-    /// A count of a thread stands too. An error where memory is refused (own).
-    pub fn add(&mut self, thread: usize, count: u16) -> Result<(), AllocError> {
-        if let Some(counts) = self.threads.get_mut(thread) {
-            let place = usize::from(count);
-            if counts.len() <= place {
-                counts.resize(place + 1, false)?;
-            }
-            if let Some(stands) = counts.get_mut(place) {
-                *stands = true;
-            }
+    /// A count of a thread stands too (own).
+    pub fn add(&mut self, thread: usize, count: u16) {
+        let place = usize::from(count);
+        if thread >= MAX_THREADS || place >= RANKED {
+            return;
         }
-        Ok(())
+        self.stands[thread * RANKED + place] = true;
+        if self.end <= place {
+            self.end = place + 1;
+        }
     }
 
     /// So does one that there may be (own).
-    pub fn add_optional(&mut self, thread: usize, count: Option<u16>) -> Result<(), AllocError> {
-        match count {
-            Some(count) => self.add(thread, count),
-            None => Ok(()),
+    pub fn add_optional(&mut self, thread: usize, count: Option<u16>) {
+        if let Some(count) = count {
+            self.add(thread, count);
         }
     }
 
     /// So does each count of a vector (own).
-    pub fn add_all(&mut self, view: &VersionVec) -> Result<(), AllocError> {
+    pub fn add_all(&mut self, view: &VersionVec) {
+        if view.word() == 0 {
+            return;
+        }
         let counts = view.versions();
         for thread in 0..MAX_THREADS {
-            self.add(thread, counts[thread])?;
+            self.add(thread, counts[thread]);
         }
-        Ok(())
     }
 
     /// The ranks of these counts. An error where memory is refused (own).
     #[tactic(auto, using(crate::proofs::Ranks::all_more, crate::proofs::Ranks::all_rising))]
-    pub fn ranks(&self) -> Result<Ranks, AllocError>
+    pub fn ranks(&self, alloc: Global) -> Result<Ranks, AllocError>
         ensures { IfOk result (λ ranks. IsRising (Ranked ranks)) }
     {
-        let mut ranks = Vec::new(self.alloc);
-        for counts in self.threads.as_slice() {
-            ranks.push(ranks_of(self.alloc, counts.as_slice())?)?;
+        let end = self.end.min(RANKED);
+        let mut ranks = Vec::with_capacity(alloc, MAX_THREADS)?;
+        for thread in 0..MAX_THREADS {
+            let start = thread * RANKED;
+            ranks.push(ranks_of(alloc, &self.stands[start..start + end])?)?;
         }
         Ok(Ranks {
             threads: Sequence::from_vec(ranks),
@@ -81,7 +91,7 @@ impl Standing {
 fn ranks_of(alloc: Global, stands: &[bool]) -> Result<Sequence<Option<u16>>, AllocError>
     ensures { IfOk result (λ ranks. AreRising ranks) }
 {
-    let mut ranks = Vec::new(alloc);
+    let mut ranks = Vec::with_capacity(alloc, stands.len())?;
     let mut next: u16 = 0;
     for stand in stands {
         if *stand && next < MAX_VERSION {

@@ -13,7 +13,6 @@ ghost use Rattle.loom_views.specs.Orderings.{is_acquire, is_release};
 use crate::rt::ranks::{Ranks, Standing};
 use crate::rt::vv::{VersionVec, mixed};
 use crate::same::Same;
-use std::alloc::AllocError;
 use std::marker::Model;
 use std::sync::atomic::Ordering;
 
@@ -214,11 +213,11 @@ impl Same for Synchronize {
 }
 
 impl ThreadViews {
-    /// Its counts stand too. An error where memory is refused (own).
-    pub fn stand(&self, thread: usize, standing: &mut Standing) -> Result<(), AllocError> {
-        standing.add_all(&self.present)?;
-        standing.add_all(&self.released)?;
-        standing.add_optional(thread, self.last_yield)
+    /// Its counts stand too (own).
+    pub fn stand(&self, thread: usize, standing: &mut Standing) {
+        standing.add_all(&self.present);
+        standing.add_all(&self.released);
+        standing.add_optional(thread, self.last_yield);
     }
 
     /// The thread's views by ranks, if each count has one (own).
@@ -239,9 +238,9 @@ impl ThreadViews {
 }
 
 impl Synchronize {
-    /// Its counts stand too. An error where memory is refused (own).
-    pub fn stand(&self, standing: &mut Standing) -> Result<(), AllocError> {
-        standing.add_all(&self.happens_before)
+    /// Its counts stand too (own).
+    pub fn stand(&self, standing: &mut Standing) {
+        standing.add_all(&self.happens_before);
     }
 
     /// The view by ranks, if each count has one (own).

@@ -571,8 +571,8 @@ impl Same for Kept {
 }
 
 impl Kept {
-    /// Its counts stand too. An error where memory is refused.
-    fn stand(&self, standing: &mut Standing) -> Result<(), AllocError> {
+    /// Its counts stand too.
+    fn stand(&self, standing: &mut Standing) {
         match self {
             Kept::Point(view) => view.stand(standing),
             Kept::Atomic(state) => state.stand(standing),
@@ -631,24 +631,23 @@ impl Views {
     pub fn ranked(&self, alloc: Global) -> Result<Views, AllocError>
         ensures { IfOk result (λ ranked. IsInOrder self.now ranked) }
     {
-        let standing = self.standing(alloc)?;
-        let ranks = standing.ranks()?;
+        let mut standing = Standing::new();
+        self.stand(&mut standing);
+        let ranks = standing.ranks(alloc)?;
         match self.by_ranks(alloc, &ranks)? {
             Some(ranked) => Ok(ranked),
             None => self.try_clone(alloc),
         }
     }
 
-    /// Which counts stand in these views. An error where memory is refused.
-    fn standing(&self, alloc: Global) -> Result<Standing, AllocError> {
-        let mut standing = Standing::new(alloc)?;
-        standing.add_all(&self.global)?;
+    /// The counts of these views stand too.
+    fn stand(&self, standing: &mut Standing) {
+        standing.add_all(&self.global);
         for thread in 0..MAX_THREADS {
-            self.threads[thread].stand(thread, &mut standing)?;
+            self.threads[thread].stand(thread, standing);
         }
-        stand_places(self.places.as_slice(), &mut standing)?;
-        stand_stamps(self.stamps.as_slice(), &mut standing)?;
-        Ok(standing)
+        stand_places(self.places.as_slice(), standing);
+        stand_stamps(self.stamps.as_slice(), standing);
     }
 
     /// The views by these ranks, if each count has one. An error where memory is refused.
@@ -692,20 +691,18 @@ impl Views {
     }
 }
 
-/// The counts of what is kept of objects stand too. An error where memory is refused.
-fn stand_places(places: &[Kept], standing: &mut Standing) -> Result<(), AllocError> {
+/// The counts of what is kept of objects stand too.
+fn stand_places(places: &[Kept], standing: &mut Standing) {
     for kept in places {
-        kept.stand(standing)?;
+        kept.stand(standing);
     }
-    Ok(())
 }
 
 /// So do those of stamps.
-fn stand_stamps(stamps: &[Synchronize], standing: &mut Standing) -> Result<(), AllocError> {
+fn stand_stamps(stamps: &[Synchronize], standing: &mut Standing) {
     for stamp in stamps {
-        stamp.stand(standing)?;
+        stamp.stand(standing);
     }
-    Ok(())
 }
 
 /// The views of threads by ranks, if each count has one.

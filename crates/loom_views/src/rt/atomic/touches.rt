@@ -10,7 +10,6 @@ use crate::rt::MAX_THREADS;
 use crate::rt::ranks::{Ranks, Standing};
 use crate::rt::vv::{VersionVec, lanes};
 use crate::same::Same;
-use std::alloc::AllocError;
 use std::marker::Model;
 
 // in the lane of a thread that hasn't touched the store, and in those of no thread: more than any version
@@ -93,12 +92,14 @@ impl Touches {
         self.word = lanes::set(self.word, thread, version.unwrap_or(UNTOUCHED));
     }
 
-    /// Their counts stand too. An error where memory is refused (own).
-    pub fn stand(&self, standing: &mut Standing) -> Result<(), AllocError> {
-        for thread in 0..MAX_THREADS {
-            standing.add_optional(thread, self.at(thread))?;
+    /// Their counts stand too (own).
+    pub fn stand(&self, standing: &mut Standing) {
+        if self.word == u128::MAX {
+            return;
         }
-        Ok(())
+        for thread in 0..MAX_THREADS {
+            standing.add_optional(thread, self.at(thread));
+        }
     }
 
     /// First touches by ranks, if each count has one (own).

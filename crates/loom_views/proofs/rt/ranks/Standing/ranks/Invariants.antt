@@ -3,5 +3,5 @@ use Rattle.loom_views.specs.InOrder.{AreRising}
 use Rattle.loom_views.proofs.rt.ranks.Standing.ranks.Given as goal
 
 -- the ranks of each thread so far stand in order
-abbrev pub invariant-loop-counts : goal.invariant-loop-counts
-invariant-loop-counts l = AllByRecursion AreRising l.ranks.items
+abbrev pub invariant-loop-thread : goal.invariant-loop-thread
+invariant-loop-thread l = AllByRecursion AreRising l.ranks.items
