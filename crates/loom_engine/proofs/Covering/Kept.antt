@@ -43,7 +43,7 @@ module _ {D S : Type 0} where
       record {
         bodies = kept.bodies;
         seen = record {
-          rest = record { threads = kept.threads; objects = kept.objects; points = first_points; lazies = kept.lazies; active = 0; steps_left = 0; max_threads = kept.max_threads };
+          rest = record { threads = kept.threads; objects = kept.objects; points = first_points; lazies = kept.lazies; active = 0; yields = kept.yields; steps_left = 0; max_threads = kept.max_threads };
           points = points;
         };
         exploring = On;
@@ -91,9 +91,11 @@ is_state_in {D} {S} kept run bodies views has order count same =
     three ∙ ap (λ (l : List (Lazy D)). record kept { threads = s.threads; objects = s.objects; views = views; lazies = l }) has.lazies in
     let five : kept ≡ record kept { threads = s.threads; objects = s.objects; views = views; lazies = s.lazies; max_threads = s.max_threads } =
     four ∙ ap (λ (n : ℕ). record kept { threads = s.threads; objects = s.objects; views = views; lazies = s.lazies; max_threads = n }) has.max_threads in
-    let six : kept ≡ record kept { threads = s.threads; objects = s.objects; views = views; lazies = s.lazies; max_threads = s.max_threads; ordered = length run.dependence.threads } =
-    five ∙ ap (λ (n : ℕ). record kept { threads = s.threads; objects = s.objects; views = views; lazies = s.lazies; max_threads = s.max_threads; ordered = n }) count in
-    six ∙ ap (λ (l : List S). let k : Kept D S = record kept { threads = s.threads; objects = s.objects; views = views; lazies = s.lazies; max_threads = s.max_threads; ordered = length run.dependence.threads; bodies = l } in k) same
+    let six : kept ≡ record kept { threads = s.threads; objects = s.objects; views = views; lazies = s.lazies; max_threads = s.max_threads; yields = s.yields } =
+    five ∙ ap (λ (l : List ℕ). record kept { threads = s.threads; objects = s.objects; views = views; lazies = s.lazies; max_threads = s.max_threads; yields = l }) has.yields in
+    let seven : kept ≡ record kept { threads = s.threads; objects = s.objects; views = views; lazies = s.lazies; max_threads = s.max_threads; yields = s.yields; ordered = length run.dependence.threads } =
+    six ∙ ap (λ (n : ℕ). record kept { threads = s.threads; objects = s.objects; views = views; lazies = s.lazies; max_threads = s.max_threads; yields = s.yields; ordered = n }) count in
+    seven ∙ ap (λ (l : List S). let k : Kept D S = record kept { threads = s.threads; objects = s.objects; views = views; lazies = s.lazies; max_threads = s.max_threads; yields = s.yields; ordered = length run.dependence.threads; bodies = l } in k) same
 
 -- a list has what stands at one of its places
 pub has_at : {X : Type 0} (xs : List X) (k : ℕ) (x : X) → slice_get xs k ≡ Some x → Contains xs x

@@ -1,6 +1,6 @@
 -- The rules of the machine look at points by moves alone: where the same is seen of them, each rule answers alike.
 use Rattle.std.proofs.Common.{◌≡◌, ℕ, Bool, true, false, List, [], ◌∷◌, Option, Some, None, refl, ap, sym, subst, inl}
-use Rattle.std.specs.Prelude.{◌==◌, not, nat_lt, is_none, Result, Ok, Err}
+use Rattle.std.specs.Prelude.{◌+◌, ◌==◌, not, nat_lt, is_none, slice_index, slice_set, Result, Ok, Err}
 use Rattle.std.specs.declared.sync.atomic.Ordering.{Ordering}
 use Rattle.loom_views.specs.Changes.{fit, changed}
 use Rattle.loom_views.specs.Limits.{highest_count}
@@ -37,13 +37,21 @@ pub joined_so : {V : Type 0} (limits : FailureKind → Bool) (seen : Points → 
 joined_so limits seen tells None t p q e = e
 joined_so limits seen tells (Some u) t p q e = tells.join p q u t e
 
-module _ {D V : Type 0} (limits : FailureKind → Bool) (seen : Points → V) where
-  -- the same state with other points, and with so many operations left
-  abbrev pub with_other : Points → ℕ → World D → World D
-  with_other q k w = record w { points = q; steps_left = k }
+-- what is seen of the yields tells what is seen once a thread has yielded once more
+abbrev pub YieldsTell : (List ℕ → List ℕ) → Type 0
+YieldsTell see = (a b : List ℕ) (t : ℕ) → see a ≡ see b → see (slice_set a t (slice_index a t + 1)) ≡ see (slice_set b t (slice_index b t + 1))
+
+module _ {D V : Type 0} (limits : FailureKind → Bool) (seen : Points → V) (see : List ℕ → List ℕ) where
+  -- the same state with other points, with so many operations left, and with other yields
+  abbrev pub with_other : Points → ℕ → List ℕ → World D → World D
+  with_other q k y w = record w { points = q; steps_left = k; yields = y }
+
+  -- the same is seen of the points, and of the yields
+  abbrev pub SeenSame : World D → Points → List ℕ → Type 0
+  SeenSame w q y = (seen w.points ≡ seen q) × (see w.yields ≡ see y)
 
   abbrev pub Like : World D → World D → Type 0
-  Like w v = (q : Points) × (k : ℕ) × (seen w.points ≡ seen q) × (v ≡ with_other q k w)
+  Like w v = (q : Points) × (k : ℕ) × (y : List ℕ) × SeenSame w q y × (v ≡ with_other q k y w)
 
   -- both answer the same, and come to states that are like each other
   abbrev pub Follows : {A : Type 0} → Result (A × World D) FailureKind → Result (A × World D) FailureKind → Type 0
@@ -63,15 +71,15 @@ module _ {D V : Type 0} (limits : FailureKind → Bool) (seen : Points → V) wh
   after_alone (Err kind) f g h = inl refl
 
   pub state_then : {A : Type 0} (r s : Result (World D) FailureKind) (f g : World D → Result (A × World D) FailureKind) → FollowsAlone r s
-      → ((w : World D) (q : Points) (k : ℕ) → seen w.points ≡ seen q → Follows (f w) (g (with_other q k w))) → Follows (r >>= f) (s >>= g)
-  state_then (Ok w) (Ok v) f g (q, k, e, i) h = subst (λ x. Follows (f w) (g x)) (sym i) (h w q k e)
+      → ((w : World D) (q : Points) (k : ℕ) (y : List ℕ) → SeenSame w q y → Follows (f w) (g (with_other q k y w))) → Follows (r >>= f) (s >>= g)
+  state_then (Ok w) (Ok v) f g (q, k, y, e, i) h = subst (λ x. Follows (f w) (g x)) (sym i) (h w q k y e)
   state_then (Ok w) (Err kind) f g p h = limit_right limits (BothAlike Like) (came (f w)) kind p
   state_then (Err kind) (Ok v) f g p h = limit_left limits (BothAlike Like) kind (came (g v)) p
   state_then (Err kind) (Err other) f g p h = p
 
   pub answer_then : {A B : Type 0} (r s : Result (B × World D) FailureKind) (f g : B × World D → Result (A × World D) FailureKind) → Follows r s
-      → ((b : B) (w : World D) (q : Points) (k : ℕ) → seen w.points ≡ seen q → Follows (f (b, w)) (g (b, with_other q k w))) → Follows (r >>= f) (s >>= g)
-  answer_then (Ok (b, w)) (Ok (c, v)) f g (j, (q, k, e, i)) h = subst (λ x. Follows (f (b, w)) (g (c, x))) (sym i) (subst (λ x. Follows (f (b, w)) (g (x, with_other q k w))) j (h b w q k e))
+      → ((b : B) (w : World D) (q : Points) (k : ℕ) (y : List ℕ) → SeenSame w q y → Follows (f (b, w)) (g (b, with_other q k y w))) → Follows (r >>= f) (s >>= g)
+  answer_then (Ok (b, w)) (Ok (c, v)) f g (j, (q, k, y, e, i)) h = subst (λ x. Follows (f (b, w)) (g (c, x))) (sym i) (subst (λ x. Follows (f (b, w)) (g (x, with_other q k y w))) j (h b w q k y e))
   answer_then (Ok (b, w)) (Err kind) f g p h = limit_right limits (BothAlike Like) (came (f (b, w))) kind p
   answer_then (Err kind) (Ok (c, v)) f g p h = limit_left limits (BothAlike Like) kind (came (g (c, v))) p
   answer_then (Err kind) (Err other) f g p h = p
@@ -112,165 +120,165 @@ module _ {D V : Type 0} (limits : FailureKind → Bool) (seen : Points → V) wh
   slots_then (Err kind) (Err other) f g p h = p
 
   module _ (tells : TellsMoves limits seen) where
-    pub raises_so : (w : World D) (q : Points) (k : ℕ) → seen w.points ≡ seen q → FollowsAlone (raises w) (raises (with_other q k w))
-    raises_so w q k e = points_alone (points_after_raise w.points w.active) (points_after_raise q w.active) _ _ (tells.raise w.points q w.active e) (λ p r i. (r, k, i, refl))
+    pub raises_so : (w : World D) (q : Points) (k : ℕ) (y : List ℕ) → SeenSame w q y → FollowsAlone (raises w) (raises (with_other q k y w))
+    raises_so w q k y e = points_alone (points_after_raise w.points w.active) (points_after_raise q w.active) _ _ (tells.raise w.points q w.active e.0) (λ p r i. (r, k, y, (i, e.1), refl))
 
-    pub rouses_so : (list : List ℕ) (w : World D) (q : Points) (k : ℕ) → seen w.points ≡ seen q → Like (rouses_all list w) (rouses_all list (with_other q k w))
-    rouses_so [] w q k e = (q, k, e, refl)
-    rouses_so (t ∷ rest) w q k e = rouses_so rest (rouses t w) (points_after_join q t w.active) k (tells.join w.points q t w.active e)
+    pub rouses_so : (list : List ℕ) (w : World D) (q : Points) (k : ℕ) (y : List ℕ) → SeenSame w q y → Like (rouses_all list w) (rouses_all list (with_other q k y w))
+    rouses_so [] w q k y e = (q, k, y, e, refl)
+    rouses_so (t ∷ rest) w q k y e = rouses_so rest (rouses t w) (points_after_join q t w.active) k y (tells.join w.points q t w.active e.0, e.1)
 
     -- ---- atomics
 
-    access_begins_so : (access : AtomicOp) (w : World D) (q : Points) (k : ℕ) → seen w.points ≡ seen q → Follows (access_begins access w) (access_begins access (with_other q k w))
-    access_begins_so access w q k e = after (found (accessed access) Misuse) _ _ (λ n. after (an_atomic n w) _ _ (λ atomic. (refl, (_, _, e, refl))))
+    access_begins_so : (access : AtomicOp) (w : World D) (q : Points) (k : ℕ) (y : List ℕ) → SeenSame w q y → Follows (access_begins access w) (access_begins access (with_other q k y w))
+    access_begins_so access w q k y e = after (found (accessed access) Misuse) _ _ (λ n. after (an_atomic n w) _ _ (λ atomic. (refl, (_, _, _, e, refl))))
 
-    pub fence_so : (order : Ordering) (w : World D) (q : Points) (k : ℕ) → seen w.points ≡ seen q → Follows (fence order w) (fence order (with_other q k w))
-    fence_so order w q k e =
-        state_then (raises w) (raises (with_other q k w)) _ _ (raises_so w q k e) (λ u p j f. after (check (not (is_relaxed order)) RelaxedFence) _ _ (λ passes. (refl, (_, _, tells.fence u.points p u.active order f, refl))))
+    pub fence_so : (order : Ordering) (w : World D) (q : Points) (k : ℕ) (y : List ℕ) → SeenSame w q y → Follows (fence order w) (fence order (with_other q k y w))
+    fence_so order w q k y e =
+        state_then (raises w) (raises (with_other q k y w)) _ _ (raises_so w q k y e) (λ u p j z f. after (check (not (is_relaxed order)) RelaxedFence) _ _ (λ passes. (refl, (_, _, _, (tells.fence u.points p u.active order f.0, f.1), refl))))
 
-    pub atomic_begins_so : (todo : AtomicOp) (w : World D) (q : Points) (k : ℕ) → seen w.points ≡ seen q → Follows (atomic_begins todo w) (atomic_begins todo (with_other q k w))
-    atomic_begins_so (atomic_op.New numbers value) w q k e = (refl, (_, _, tells.atomic w.points q w.active (fit numbers value) e, refl))
-    atomic_begins_so (atomic_op.UnsyncLoad n) w q k e =
-        after (an_atomic n w) _ _ (λ atomic. access_then (points_after_unsync_load w.points w.active n) (points_after_unsync_load q w.active n) _ _ (tells.unsync_load w.points q w.active n e)
-        (λ a b i f. (ap (λ x. Answered (reply.Value x)) i, (_, _, f, refl))))
-    atomic_begins_so (atomic_op.IntoInner n) w q k e =
-        after (an_atomic n w) _ _ (λ atomic. access_then (points_after_unsync_load w.points w.active n) (points_after_unsync_load q w.active n) _ _ (tells.unsync_load w.points q w.active n e)
-        (λ a b i f. (ap (λ x. Answered (reply.Value x)) i, (_, _, f, refl))))
-    atomic_begins_so (atomic_op.WithMut n) w q k e =
-        after (an_atomic n w) _ _ (λ atomic. access_then (points_after_with_mut w.points w.active n) (points_after_with_mut q w.active n) _ _ (tells.with_mut w.points q w.active n e)
-        (λ a b i f. (ap (λ x. Answered (reply.Value x)) i, (_, _, f, refl))))
-    atomic_begins_so (atomic_op.WithMutEnd n value) w q k e =
+    pub atomic_begins_so : (todo : AtomicOp) (w : World D) (q : Points) (k : ℕ) (y : List ℕ) → SeenSame w q y → Follows (atomic_begins todo w) (atomic_begins todo (with_other q k y w))
+    atomic_begins_so (atomic_op.New numbers value) w q k y e = (refl, (_, _, _, (tells.atomic w.points q w.active (fit numbers value) e.0, e.1), refl))
+    atomic_begins_so (atomic_op.UnsyncLoad n) w q k y e =
+        after (an_atomic n w) _ _ (λ atomic. access_then (points_after_unsync_load w.points w.active n) (points_after_unsync_load q w.active n) _ _ (tells.unsync_load w.points q w.active n e.0)
+        (λ a b i f. (ap (λ x. Answered (reply.Value x)) i, (_, _, _, (f, e.1), refl))))
+    atomic_begins_so (atomic_op.IntoInner n) w q k y e =
+        after (an_atomic n w) _ _ (λ atomic. access_then (points_after_unsync_load w.points w.active n) (points_after_unsync_load q w.active n) _ _ (tells.unsync_load w.points q w.active n e.0)
+        (λ a b i f. (ap (λ x. Answered (reply.Value x)) i, (_, _, _, (f, e.1), refl))))
+    atomic_begins_so (atomic_op.WithMut n) w q k y e =
+        after (an_atomic n w) _ _ (λ atomic. access_then (points_after_with_mut w.points w.active n) (points_after_with_mut q w.active n) _ _ (tells.with_mut w.points q w.active n e.0)
+        (λ a b i f. (ap (λ x. Answered (reply.Value x)) i, (_, _, _, (f, e.1), refl))))
+    atomic_begins_so (atomic_op.WithMutEnd n value) w q k y e =
         after (an_atomic n w) _ _ (λ atomic. after (check (is_number atomic.opened w.active) Misuse) _ _ (λ passes.
         access_then (points_after_with_mut_end w.points w.active n (fit atomic.numbers value)) (points_after_with_mut_end q w.active n (fit atomic.numbers value)) _ _
-        (tells.with_mut_end w.points q w.active n (fit atomic.numbers value) e) (λ a b i f. (refl, (_, _, f, refl)))))
-    atomic_begins_so (atomic_op.Load n order) w q k e = access_begins_so (atomic_op.Load n order) w q k e
-    atomic_begins_so (atomic_op.Store n value order) w q k e = access_begins_so (atomic_op.Store n value order) w q k e
-    atomic_begins_so (atomic_op.Update n change order) w q k e = access_begins_so (atomic_op.Update n change order) w q k e
-    atomic_begins_so (atomic_op.CompareExchange n exchange) w q k e = access_begins_so (atomic_op.CompareExchange n exchange) w q k e
-    atomic_begins_so (atomic_op.CompareAndSwap n expected new order) w q k e = access_begins_so (atomic_op.CompareAndSwap n expected new order) w q k e
+        (tells.with_mut_end w.points q w.active n (fit atomic.numbers value) e.0) (λ a b i f. (refl, (_, _, _, (f, e.1), refl)))))
+    atomic_begins_so (atomic_op.Load n order) w q k y e = access_begins_so (atomic_op.Load n order) w q k y e
+    atomic_begins_so (atomic_op.Store n value order) w q k y e = access_begins_so (atomic_op.Store n value order) w q k y e
+    atomic_begins_so (atomic_op.Update n change order) w q k y e = access_begins_so (atomic_op.Update n change order) w q k y e
+    atomic_begins_so (atomic_op.CompareExchange n exchange) w q k y e = access_begins_so (atomic_op.CompareExchange n exchange) w q k y e
+    atomic_begins_so (atomic_op.CompareAndSwap n expected new order) w q k y e = access_begins_so (atomic_op.CompareAndSwap n expected new order) w q k y e
 
-    store_so : (n value : ℕ) (order : Ordering) (w : World D) (q : Points) (k : ℕ) → seen w.points ≡ seen q → Follows (store n value order w) (store n value order (with_other q k w))
-    store_so n value order w q k e =
-        state_then (raises w) (raises (with_other q k w)) _ _ (raises_so w q k e) (λ u p j f. after (an_atomic n u) _ _ (λ atomic.
+    store_so : (n value : ℕ) (order : Ordering) (w : World D) (q : Points) (k : ℕ) (y : List ℕ) → SeenSame w q y → Follows (store n value order w) (store n value order (with_other q k y w))
+    store_so n value order w q k y e =
+        state_then (raises w) (raises (with_other q k y w)) _ _ (raises_so w q k y e) (λ u p j z f. after (an_atomic n u) _ _ (λ atomic.
         access_then (points_after_store u.points u.active n (fit atomic.numbers value) order) (points_after_store p u.active n (fit atomic.numbers value) order) _ _
-        (tells.store u.points p u.active n (fit atomic.numbers value) order f) (λ a b i g. (refl, (_, _, g, refl)))))
+        (tells.store u.points p u.active n (fit atomic.numbers value) order f.0) (λ a b i g. (refl, (_, _, _, (g, f.1), refl)))))
 
-    opens_so : (n : ℕ) (reader : Reader) (access : AtomicOp) (w : World D) (q : Points) (k : ℕ) → seen w.points ≡ seen q → Follows (opens n reader access w) (opens n reader access (with_other q k w))
-    opens_so n reader access w q k e =
-        state_then (raises w) (raises (with_other q k w)) _ _ (raises_so w q k e) (λ u p j f. after (an_atomic n u) _ _ (λ atomic.
-        slots_then (readable_slots_of u.points u.active n reader) (readable_slots_of p u.active n reader) _ _ (tells.readable u.points p u.active n reader f)
-        (λ slots. after (check (some_slot (slot_set slots)) Misuse) _ _ (λ passes. (refl, (_, _, f, refl))))))
+    opens_so : (n : ℕ) (reader : Reader) (access : AtomicOp) (w : World D) (q : Points) (k : ℕ) (y : List ℕ) → SeenSame w q y → Follows (opens n reader access w) (opens n reader access (with_other q k y w))
+    opens_so n reader access w q k y e =
+        state_then (raises w) (raises (with_other q k y w)) _ _ (raises_so w q k y e) (λ u p j z f. after (an_atomic n u) _ _ (λ atomic.
+        slots_then (readable_slots_of u.points u.active n reader) (readable_slots_of p u.active n reader) _ _ (tells.readable u.points p u.active n reader f.0)
+        (λ slots. after (check (some_slot (slot_set slots)) Misuse) _ _ (λ passes. (refl, (_, _, _, f, refl))))))
 
-    loads_so : (n : ℕ) (order : Ordering) (slot : ℕ) (w : World D) (q : Points) (k : ℕ) → seen w.points ≡ seen q → Follows (loads n order slot w) (loads n order slot (with_other q k w))
-    loads_so n order slot w q k e =
-        access_then (points_after_load w.points w.active n slot order) (points_after_load q w.active n slot order) _ _ (tells.load w.points q w.active n slot order e) (λ a b i f. (ap (λ x. reply.Value x) i, (_, _, f, refl)))
+    loads_so : (n : ℕ) (order : Ordering) (slot : ℕ) (w : World D) (q : Points) (k : ℕ) (y : List ℕ) → SeenSame w q y → Follows (loads n order slot w) (loads n order slot (with_other q k y w))
+    loads_so n order slot w q k y e =
+        access_then (points_after_load w.points w.active n slot order) (points_after_load q w.active n slot order) _ _ (tells.load w.points q w.active n slot order e.0) (λ a b i f. (ap (λ x. reply.Value x) i, (_, _, _, (f, e.1), refl)))
 
-    writes_so : (n value : ℕ) (order : Ordering) (slot : ℕ) (w : World D) (q : Points) (k : ℕ) → seen w.points ≡ seen q → FollowsAlone (writes n value order slot w) (writes n value order slot (with_other q k w))
-    writes_so n value order slot w q k e =
-        access_alone (points_after_update_write w.points w.active n slot value order) (points_after_update_write q w.active n slot value order) _ _ (tells.update_write w.points q w.active n slot value order e)
-        (λ a b f. (_, _, f, refl))
+    writes_so : (n value : ℕ) (order : Ordering) (slot : ℕ) (w : World D) (q : Points) (k : ℕ) (y : List ℕ) → SeenSame w q y → FollowsAlone (writes n value order slot w) (writes n value order slot (with_other q k y w))
+    writes_so n value order slot w q k y e =
+        access_alone (points_after_update_write w.points w.active n slot value order) (points_after_update_write q w.active n slot value order) _ _ (tells.update_write w.points q w.active n slot value order e.0)
+        (λ a b f. (_, _, _, (f, e.1), refl))
 
-    updates_so : (n : ℕ) (change : Change) (order : Ordering) (slot : ℕ) (w : World D) (q : Points) (k : ℕ) → seen w.points ≡ seen q
-        → Follows (updates n change order slot w) (updates n change order slot (with_other q k w))
-    updates_so n change order slot w q k e =
-        after (an_atomic n w) _ _ (λ atomic. access_then (points_after_update_read w.points w.active n slot) (points_after_update_read q w.active n slot) _ _ (tells.update_read w.points q w.active n slot e)
-        (λ a b i f. state_then (writes n (fit atomic.numbers (changed atomic.numbers change a.value)) order slot (with_points a.points w)) (writes n (fit atomic.numbers (changed atomic.numbers change b.value)) order slot (with_points b.points (with_other q k w))) _ _
-        (subst (λ x. FollowsAlone (writes n (fit atomic.numbers (changed atomic.numbers change a.value)) order slot (with_points a.points w)) (writes n (fit atomic.numbers (changed atomic.numbers change x)) order slot (with_other b.points k w))) i
-        (writes_so n (fit atomic.numbers (changed atomic.numbers change a.value)) order slot (with_points a.points w) b.points k f))
-        (λ u p j g. (ap (λ x. reply.Value x) i, (_, _, g, refl)))))
+    updates_so : (n : ℕ) (change : Change) (order : Ordering) (slot : ℕ) (w : World D) (q : Points) (k : ℕ) (y : List ℕ) → SeenSame w q y
+        → Follows (updates n change order slot w) (updates n change order slot (with_other q k y w))
+    updates_so n change order slot w q k y e =
+        after (an_atomic n w) _ _ (λ atomic. access_then (points_after_update_read w.points w.active n slot) (points_after_update_read q w.active n slot) _ _ (tells.update_read w.points q w.active n slot e.0)
+        (λ a b i f. state_then (writes n (fit atomic.numbers (changed atomic.numbers change a.value)) order slot (with_points a.points w)) (writes n (fit atomic.numbers (changed atomic.numbers change b.value)) order slot (with_points b.points (with_other q k y w))) _ _
+        (subst (λ x. FollowsAlone (writes n (fit atomic.numbers (changed atomic.numbers change a.value)) order slot (with_points a.points w)) (writes n (fit atomic.numbers (changed atomic.numbers change x)) order slot (with_other b.points k y w))) i
+        (writes_so n (fit atomic.numbers (changed atomic.numbers change a.value)) order slot (with_points a.points w) b.points k y (f, e.1)))
+        (λ u p j g. (ap (λ x. reply.Value x) i, (_, _, _, g, refl)))))
 
-    exchanges_if_so : (is_expected : Bool) (n new : ℕ) (exchange : Exchange) (slot read : ℕ) (w : World D) (q : Points) (k : ℕ) → seen w.points ≡ seen q
-        → Follows (exchanges_if is_expected n new exchange slot read w) (exchanges_if is_expected n new exchange slot read (with_other q k w))
-    exchanges_if_so true n new exchange slot read w q k e =
-        state_then (writes n new exchange.success slot w) (writes n new exchange.success slot (with_other q k w)) _ _ (writes_so n new exchange.success slot w q k e) (λ u p j f. (refl, (_, _, f, refl)))
-    exchanges_if_so false n new exchange slot read w q k e = (refl, (_, _, tells.update_fail w.points q w.active n slot exchange.failure e, refl))
+    exchanges_if_so : (is_expected : Bool) (n new : ℕ) (exchange : Exchange) (slot read : ℕ) (w : World D) (q : Points) (k : ℕ) (y : List ℕ) → SeenSame w q y
+        → Follows (exchanges_if is_expected n new exchange slot read w) (exchanges_if is_expected n new exchange slot read (with_other q k y w))
+    exchanges_if_so true n new exchange slot read w q k y e =
+        state_then (writes n new exchange.success slot w) (writes n new exchange.success slot (with_other q k y w)) _ _ (writes_so n new exchange.success slot w q k y e) (λ u p j z f. (refl, (_, _, _, f, refl)))
+    exchanges_if_so false n new exchange slot read w q k y e = (refl, (_, _, _, (tells.update_fail w.points q w.active n slot exchange.failure e.0, e.1), refl))
 
-    exchanges_so : (n : ℕ) (exchange : Exchange) (slot : ℕ) (w : World D) (q : Points) (k : ℕ) → seen w.points ≡ seen q → Follows (exchanges n exchange slot w) (exchanges n exchange slot (with_other q k w))
-    exchanges_so n exchange slot w q k e =
-        after (an_atomic n w) _ _ (λ atomic. access_then (points_after_update_read w.points w.active n slot) (points_after_update_read q w.active n slot) _ _ (tells.update_read w.points q w.active n slot e)
-        (λ a b i f. subst (λ x. Follows (exchanges_if (a.value == fit atomic.numbers exchange.expected) n (fit atomic.numbers exchange.new) exchange slot a.value (with_points a.points w)) (exchanges_if (x == fit atomic.numbers exchange.expected) n (fit atomic.numbers exchange.new) exchange slot x (with_other b.points k w))) i
-        (exchanges_if_so (a.value == fit atomic.numbers exchange.expected) n (fit atomic.numbers exchange.new) exchange slot a.value (with_points a.points w) b.points k f)))
+    exchanges_so : (n : ℕ) (exchange : Exchange) (slot : ℕ) (w : World D) (q : Points) (k : ℕ) (y : List ℕ) → SeenSame w q y → Follows (exchanges n exchange slot w) (exchanges n exchange slot (with_other q k y w))
+    exchanges_so n exchange slot w q k y e =
+        after (an_atomic n w) _ _ (λ atomic. access_then (points_after_update_read w.points w.active n slot) (points_after_update_read q w.active n slot) _ _ (tells.update_read w.points q w.active n slot e.0)
+        (λ a b i f. subst (λ x. Follows (exchanges_if (a.value == fit atomic.numbers exchange.expected) n (fit atomic.numbers exchange.new) exchange slot a.value (with_points a.points w)) (exchanges_if (x == fit atomic.numbers exchange.expected) n (fit atomic.numbers exchange.new) exchange slot x (with_other b.points k y w))) i
+        (exchanges_if_so (a.value == fit atomic.numbers exchange.expected) n (fit atomic.numbers exchange.new) exchange slot a.value (with_points a.points w) b.points k y (f, e.1))))
 
-    pub reads_so : (access : AtomicOp) (slot : ℕ) (w : World D) (q : Points) (k : ℕ) → seen w.points ≡ seen q → Follows (reads access w slot) (reads access (with_other q k w) slot)
-    reads_so (atomic_op.Load n order) slot w q k e = loads_so n order slot w q k e
-    reads_so (atomic_op.Update n change order) slot w q k e = updates_so n change order slot w q k e
-    reads_so (atomic_op.CompareExchange n exchange) slot w q k e =
-        answer_then (exchanges n exchange slot w) (exchanges n exchange slot (with_other q k w)) tells_exchanged tells_exchanged (exchanges_so n exchange slot w q k e) (λ answer u p j f. (refl, (_, _, f, refl)))
-    reads_so (atomic_op.CompareAndSwap n expected new order) slot w q k e =
-        answer_then (exchanges n (swap_of expected new order) slot w) (exchanges n (swap_of expected new order) slot (with_other q k w)) tells_read tells_read (exchanges_so n (swap_of expected new order) slot w q k e)
-        (λ answer u p j f. (refl, (_, _, f, refl)))
-    reads_so (atomic_op.New numbers value) slot w q k e = inl refl
-    reads_so (atomic_op.Store n value order) slot w q k e = inl refl
-    reads_so (atomic_op.UnsyncLoad n) slot w q k e = inl refl
-    reads_so (atomic_op.IntoInner n) slot w q k e = inl refl
-    reads_so (atomic_op.WithMut n) slot w q k e = inl refl
-    reads_so (atomic_op.WithMutEnd n value) slot w q k e = inl refl
+    pub reads_so : (access : AtomicOp) (slot : ℕ) (w : World D) (q : Points) (k : ℕ) (y : List ℕ) → SeenSame w q y → Follows (reads access w slot) (reads access (with_other q k y w) slot)
+    reads_so (atomic_op.Load n order) slot w q k y e = loads_so n order slot w q k y e
+    reads_so (atomic_op.Update n change order) slot w q k y e = updates_so n change order slot w q k y e
+    reads_so (atomic_op.CompareExchange n exchange) slot w q k y e =
+        answer_then (exchanges n exchange slot w) (exchanges n exchange slot (with_other q k y w)) tells_exchanged tells_exchanged (exchanges_so n exchange slot w q k y e) (λ answer u p j z f. (refl, (_, _, _, f, refl)))
+    reads_so (atomic_op.CompareAndSwap n expected new order) slot w q k y e =
+        answer_then (exchanges n (swap_of expected new order) slot w) (exchanges n (swap_of expected new order) slot (with_other q k y w)) tells_read tells_read (exchanges_so n (swap_of expected new order) slot w q k y e)
+        (λ answer u p j z f. (refl, (_, _, _, f, refl)))
+    reads_so (atomic_op.New numbers value) slot w q k y e = inl refl
+    reads_so (atomic_op.Store n value order) slot w q k y e = inl refl
+    reads_so (atomic_op.UnsyncLoad n) slot w q k y e = inl refl
+    reads_so (atomic_op.IntoInner n) slot w q k y e = inl refl
+    reads_so (atomic_op.WithMut n) slot w q k y e = inl refl
+    reads_so (atomic_op.WithMutEnd n value) slot w q k y e = inl refl
 
     -- the active thread is told the reply
     pub replied_so : (r s : Result (Reply D × World D) FailureKind) → Follows r s → Follows (r >>= replied) (s >>= replied)
-    replied_so r s h = answer_then r s replied replied h (λ answer u p j f. (refl, (_, _, f, refl)))
+    replied_so r s h = answer_then r s replied replied h (λ answer u p j z f. (refl, (_, _, _, f, refl)))
 
-    pub accesses_so : (access : AtomicOp) (w : World D) (q : Points) (k : ℕ) → seen w.points ≡ seen q → Follows (accesses access w) (accesses access (with_other q k w))
-    accesses_so (atomic_op.Store n value order) w q k e = replied_so (store n value order w) (store n value order (with_other q k w)) (store_so n value order w q k e)
-    accesses_so (atomic_op.Load n order) w q k e = opens_so n (reader.Load order) (atomic_op.Load n order) w q k e
-    accesses_so (atomic_op.Update n change order) w q k e = opens_so n reader.Update (atomic_op.Update n change order) w q k e
-    accesses_so (atomic_op.CompareExchange n exchange) w q k e = opens_so n reader.Update (atomic_op.CompareExchange n exchange) w q k e
-    accesses_so (atomic_op.CompareAndSwap n expected new order) w q k e = opens_so n reader.Update (atomic_op.CompareAndSwap n expected new order) w q k e
-    accesses_so (atomic_op.New numbers value) w q k e = inl refl
-    accesses_so (atomic_op.UnsyncLoad n) w q k e = inl refl
-    accesses_so (atomic_op.IntoInner n) w q k e = inl refl
-    accesses_so (atomic_op.WithMut n) w q k e = inl refl
-    accesses_so (atomic_op.WithMutEnd n value) w q k e = inl refl
+    pub accesses_so : (access : AtomicOp) (w : World D) (q : Points) (k : ℕ) (y : List ℕ) → SeenSame w q y → Follows (accesses access w) (accesses access (with_other q k y w))
+    accesses_so (atomic_op.Store n value order) w q k y e = replied_so (store n value order w) (store n value order (with_other q k y w)) (store_so n value order w q k y e)
+    accesses_so (atomic_op.Load n order) w q k y e = opens_so n (reader.Load order) (atomic_op.Load n order) w q k y e
+    accesses_so (atomic_op.Update n change order) w q k y e = opens_so n reader.Update (atomic_op.Update n change order) w q k y e
+    accesses_so (atomic_op.CompareExchange n exchange) w q k y e = opens_so n reader.Update (atomic_op.CompareExchange n exchange) w q k y e
+    accesses_so (atomic_op.CompareAndSwap n expected new order) w q k y e = opens_so n reader.Update (atomic_op.CompareAndSwap n expected new order) w q k y e
+    accesses_so (atomic_op.New numbers value) w q k y e = inl refl
+    accesses_so (atomic_op.UnsyncLoad n) w q k y e = inl refl
+    accesses_so (atomic_op.IntoInner n) w q k y e = inl refl
+    accesses_so (atomic_op.WithMut n) w q k y e = inl refl
+    accesses_so (atomic_op.WithMutEnd n value) w q k y e = inl refl
 
     -- ---- cells
 
-    records_read_so : (n : ℕ) (w : World D) (q : Points) (k : ℕ) → seen w.points ≡ seen q → FollowsAlone (records_read n w) (records_read n (with_other q k w))
-    records_read_so n w q k e = points_alone (points_after_read w.points w.active n) (points_after_read q w.active n) _ _ (tells.read w.points q w.active n e) (λ p r i. (r, k, i, refl))
+    records_read_so : (n : ℕ) (w : World D) (q : Points) (k : ℕ) (y : List ℕ) → SeenSame w q y → FollowsAlone (records_read n w) (records_read n (with_other q k y w))
+    records_read_so n w q k y e = points_alone (points_after_read w.points w.active n) (points_after_read q w.active n) _ _ (tells.read w.points q w.active n e.0) (λ p r i. (r, k, y, (i, e.1), refl))
 
-    records_write_so : (n : ℕ) (w : World D) (q : Points) (k : ℕ) → seen w.points ≡ seen q → FollowsAlone (records_write n w) (records_write n (with_other q k w))
-    records_write_so n w q k e = points_alone (points_after_write w.points w.active n) (points_after_write q w.active n) _ _ (tells.write w.points q w.active n e) (λ p r i. (r, k, i, refl))
+    records_write_so : (n : ℕ) (w : World D) (q : Points) (k : ℕ) (y : List ℕ) → SeenSame w q y → FollowsAlone (records_write n w) (records_write n (with_other q k y w))
+    records_write_so n w q k y e = points_alone (points_after_write w.points w.active n) (points_after_write q w.active n) _ _ (tells.write w.points q w.active n e.0) (λ p r i. (r, k, y, (i, e.1), refl))
 
-    opens_write_so : (n : ℕ) (w : World D) (q : Points) (k : ℕ) → seen w.points ≡ seen q → Follows (opens_write n w) (opens_write n (with_other q k w))
-    opens_write_so n w q k e =
-        after (a_cell n w) _ _ (λ cell. state_then (raises w) (raises (with_other q k w)) _ _ (raises_so w q k e) (λ u p j f. after (check (is_free_cell cell) OpenAccess) _ _ (λ passes.
-        state_then (records_write n u) (records_write n (with_other p j u)) _ _ (records_write_so n u p j f) (λ x r i g. (refl, (_, _, g, refl))))))
+    opens_write_so : (n : ℕ) (w : World D) (q : Points) (k : ℕ) (y : List ℕ) → SeenSame w q y → Follows (opens_write n w) (opens_write n (with_other q k y w))
+    opens_write_so n w q k y e =
+        after (a_cell n w) _ _ (λ cell. state_then (raises w) (raises (with_other q k y w)) _ _ (raises_so w q k y e) (λ u p j z f. after (check (is_free_cell cell) OpenAccess) _ _ (λ passes.
+        state_then (records_write n u) (records_write n (with_other p j z u)) _ _ (records_write_so n u p j z f) (λ x r i x' g. (refl, (_, _, _, g, refl))))))
 
-    exchanges_cells_so : (n m : ℕ) (w : World D) (q : Points) (k : ℕ) → seen w.points ≡ seen q → Follows (exchanges_cells n m w) (exchanges_cells n m (with_other q k w))
-    exchanges_cells_so n m w q k e =
+    exchanges_cells_so : (n m : ℕ) (w : World D) (q : Points) (k : ℕ) (y : List ℕ) → SeenSame w q y → Follows (exchanges_cells n m w) (exchanges_cells n m (with_other q k y w))
+    exchanges_cells_so n m w q k y e =
         after (a_cell n w) _ _ (λ one. after (a_cell m w) _ _ (λ other. after (found (value_in one.content) Misuse) _ _ (λ of_one. after (found (value_in other.content) Misuse) _ _ (λ of_other.
-        state_then (records_write m w) (records_write m (with_other q k w)) _ _ (records_write_so m w q k e) (λ u p j f.
-        state_then (records_write n u) (records_write n (with_other p j u)) _ _ (records_write_so n u p j f) (λ x r i g. (refl, (_, _, g, refl))))))))
+        state_then (records_write m w) (records_write m (with_other q k y w)) _ _ (records_write_so m w q k y e) (λ u p j z f.
+        state_then (records_write n u) (records_write n (with_other p j z u)) _ _ (records_write_so n u p j z f) (λ x r i x' g. (refl, (_, _, _, g, refl))))))))
 
-    swap_if_so : (is_same : Bool) (n m : ℕ) (w : World D) (q : Points) (k : ℕ) → seen w.points ≡ seen q → Follows (swap_if is_same n m w) (swap_if is_same n m (with_other q k w))
-    swap_if_so true n m w q k e = (refl, (_, _, e, refl))
-    swap_if_so false n m w q k e =
-        answer_then (opens_write n w) (opens_write n (with_other q k w)) _ _ (opens_write_so n w q k e) (λ opened u p j f.
-        answer_then (opens_write m u) (opens_write m (with_other p j u)) _ _ (opens_write_so m u p j f) (λ both x r i g. exchanges_cells_so n m x r i g))
+    swap_if_so : (is_same : Bool) (n m : ℕ) (w : World D) (q : Points) (k : ℕ) (y : List ℕ) → SeenSame w q y → Follows (swap_if is_same n m w) (swap_if is_same n m (with_other q k y w))
+    swap_if_so true n m w q k y e = (refl, (_, _, _, e, refl))
+    swap_if_so false n m w q k y e =
+        answer_then (opens_write n w) (opens_write n (with_other q k y w)) _ _ (opens_write_so n w q k y e) (λ opened u p j z f.
+        answer_then (opens_write m u) (opens_write m (with_other p j z u)) _ _ (opens_write_so m u p j z f) (λ both x r i x' g. exchanges_cells_so n m x r i x' g))
 
-    pub cell_begins_so : (todo : CellOp D) (w : World D) (q : Points) (k : ℕ) → seen w.points ≡ seen q → Follows (cell_begins todo w) (cell_begins todo (with_other q k w))
-    cell_begins_so (cell_op.New value) w q k e = (refl, (_, _, tells.cell w.points q w.active e, refl))
-    cell_begins_so (cell_op.Read n) w q k e =
-        after (a_cell n w) _ _ (λ cell. state_then (raises w) (raises (with_other q k w)) _ _ (raises_so w q k e) (λ u p j f. after (check (is_none cell.content.lent) OpenAccess) _ _ (λ passes.
-        state_then (records_read n u) (records_read n (with_other p j u)) _ _ (records_read_so n u p j f) (λ x r i g. after (found (value_in cell.content) Misuse) _ _ (λ value.
-        after (check (nat_lt (reads_open w.active cell) highest_count) TooManySteps) _ _ (λ few. (refl, (_, _, g, refl))))))))
-    cell_begins_so (cell_op.ReadEnd n) w q k e =
+    pub cell_begins_so : (todo : CellOp D) (w : World D) (q : Points) (k : ℕ) (y : List ℕ) → SeenSame w q y → Follows (cell_begins todo w) (cell_begins todo (with_other q k y w))
+    cell_begins_so (cell_op.New value) w q k y e = (refl, (_, _, _, (tells.cell w.points q w.active e.0, e.1), refl))
+    cell_begins_so (cell_op.Read n) w q k y e =
+        after (a_cell n w) _ _ (λ cell. state_then (raises w) (raises (with_other q k y w)) _ _ (raises_so w q k y e) (λ u p j z f. after (check (is_none cell.content.lent) OpenAccess) _ _ (λ passes.
+        state_then (records_read n u) (records_read n (with_other p j z u)) _ _ (records_read_so n u p j z f) (λ x r i x' g. after (found (value_in cell.content) Misuse) _ _ (λ value.
+        after (check (nat_lt (reads_open w.active cell) highest_count) TooManySteps) _ _ (λ few. (refl, (_, _, _, g, refl))))))))
+    cell_begins_so (cell_op.ReadEnd n) w q k y e =
         after (a_cell n w) _ _ (λ cell. after (check (nat_lt 0 (reads_open w.active cell)) Misuse) _ _ (λ some. after (check (is_none cell.content.lent) OpenAccess) _ _ (λ passes.
-        state_then (records_read n w) (records_read n (with_other q k w)) _ _ (records_read_so n w q k e) (λ x r i g. (refl, (_, _, g, refl))))))
-    cell_begins_so (cell_op.Deref n) w q k e =
-        after (a_cell n w) _ _ (λ cell. after (check (nat_lt 0 (reads_open w.active cell)) Misuse) _ _ (λ some. after (found (value_in cell.content) Misuse) _ _ (λ value. (refl, (_, _, e, refl)))))
-    cell_begins_so (cell_op.Write n) w q k e =
-        after (a_cell n w) _ _ (λ cell. state_then (raises w) (raises (with_other q k w)) _ _ (raises_so w q k e) (λ u p j f. after (check (is_free_cell cell) OpenAccess) _ _ (λ passes.
-        state_then (records_write n u) (records_write n (with_other p j u)) _ _ (records_write_so n u p j f) (λ x r i g. after (found (value_in cell.content) Misuse) _ _ (λ value. (refl, (_, _, g, refl)))))))
-    cell_begins_so (cell_op.WriteEnd n value) w q k e =
+        state_then (records_read n w) (records_read n (with_other q k y w)) _ _ (records_read_so n w q k y e) (λ x r i x' g. (refl, (_, _, _, g, refl))))))
+    cell_begins_so (cell_op.Deref n) w q k y e =
+        after (a_cell n w) _ _ (λ cell. after (check (nat_lt 0 (reads_open w.active cell)) Misuse) _ _ (λ some. after (found (value_in cell.content) Misuse) _ _ (λ value. (refl, (_, _, _, e, refl)))))
+    cell_begins_so (cell_op.Write n) w q k y e =
+        after (a_cell n w) _ _ (λ cell. state_then (raises w) (raises (with_other q k y w)) _ _ (raises_so w q k y e) (λ u p j z f. after (check (is_free_cell cell) OpenAccess) _ _ (λ passes.
+        state_then (records_write n u) (records_write n (with_other p j z u)) _ _ (records_write_so n u p j z f) (λ x r i x' g. after (found (value_in cell.content) Misuse) _ _ (λ value. (refl, (_, _, _, g, refl)))))))
+    cell_begins_so (cell_op.WriteEnd n value) w q k y e =
         after (a_cell n w) _ _ (λ cell. after (check (is_number cell.content.lent w.active) Misuse) _ _ (λ own. after (check (is_unread_cell cell) OpenAccess) _ _ (λ passes.
-        state_then (records_write n w) (records_write n (with_other q k w)) _ _ (records_write_so n w q k e) (λ x r i g. (refl, (_, _, g, refl))))))
-    cell_begins_so (cell_op.IntoInner n) w q k e = after (a_cell n w) _ _ (λ cell. after (data_left cell) _ _ (λ value. (refl, (_, _, e, refl))))
-    cell_begins_so (cell_op.Get n) w q k e =
-        after (a_cell n w) _ _ (λ cell. state_then (raises w) (raises (with_other q k w)) _ _ (raises_so w q k e) (λ u p j f. after (check (is_none cell.content.lent) OpenAccess) _ _ (λ passes.
-        state_then (records_read n u) (records_read n (with_other p j u)) _ _ (records_read_so n u p j f) (λ x r i g. after (found (value_in cell.content) Misuse) _ _ (λ value.
-        state_then (records_read n x) (records_read n (with_other r i x)) _ _ (records_read_so n x r i g) (λ y s h l. (refl, (_, _, l, refl))))))))
-    cell_begins_so (cell_op.Replace n new) w q k e =
-        after (a_cell n w) _ _ (λ cell. state_then (raises w) (raises (with_other q k w)) _ _ (raises_so w q k e) (λ u p j f. after (check (is_free_cell cell) OpenAccess) _ _ (λ passes.
-        state_then (records_write n u) (records_write n (with_other p j u)) _ _ (records_write_so n u p j f) (λ x r i g. after (found (value_in cell.content) Misuse) _ _ (λ value.
-        state_then (records_write n x) (records_write n (with_other r i x)) _ _ (records_write_so n x r i g) (λ y s h l. (refl, (_, _, l, refl))))))))
-    cell_begins_so (cell_op.Swap n m) w q k e = after (a_cell n w) _ _ (λ one. after (a_cell m w) _ _ (λ other. swap_if_so (n == m) n m w q k e))
+        state_then (records_write n w) (records_write n (with_other q k y w)) _ _ (records_write_so n w q k y e) (λ x r i x' g. (refl, (_, _, _, g, refl))))))
+    cell_begins_so (cell_op.IntoInner n) w q k y e = after (a_cell n w) _ _ (λ cell. after (data_left cell) _ _ (λ value. (refl, (_, _, _, e, refl))))
+    cell_begins_so (cell_op.Get n) w q k y e =
+        after (a_cell n w) _ _ (λ cell. state_then (raises w) (raises (with_other q k y w)) _ _ (raises_so w q k y e) (λ u p j z f. after (check (is_none cell.content.lent) OpenAccess) _ _ (λ passes.
+        state_then (records_read n u) (records_read n (with_other p j z u)) _ _ (records_read_so n u p j z f) (λ x r i x' g. after (found (value_in cell.content) Misuse) _ _ (λ value.
+        state_then (records_read n x) (records_read n (with_other r i x' x)) _ _ (records_read_so n x r i x' g) (λ y s h y' l. (refl, (_, _, _, l, refl))))))))
+    cell_begins_so (cell_op.Replace n new) w q k y e =
+        after (a_cell n w) _ _ (λ cell. state_then (raises w) (raises (with_other q k y w)) _ _ (raises_so w q k y e) (λ u p j z f. after (check (is_free_cell cell) OpenAccess) _ _ (λ passes.
+        state_then (records_write n u) (records_write n (with_other p j z u)) _ _ (records_write_so n u p j z f) (λ x r i x' g. after (found (value_in cell.content) Misuse) _ _ (λ value.
+        state_then (records_write n x) (records_write n (with_other r i x' x)) _ _ (records_write_so n x r i x' g) (λ y s h y' l. (refl, (_, _, _, l, refl))))))))
+    cell_begins_so (cell_op.Swap n m) w q k y e = after (a_cell n w) _ _ (λ one. after (a_cell m w) _ _ (λ other. swap_if_so (n == m) n m w q k y e))

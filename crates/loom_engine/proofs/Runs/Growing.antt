@@ -1,6 +1,6 @@
 -- What needs no memory leaves as many threads and objects as there were.
 use Rattle.std.proofs.Common.{◌≡◌, ◌-◌, ℕ, suc, Bool, true, false, List, [], ◌∷◌, length, Option, Some, None, refl, ap}
-use Rattle.std.specs.Prelude.{◌==◌, is_none, map, nat_lt, not, slice_get, slice_set, Result, Ok, Err, ⊤}
+use Rattle.std.specs.Prelude.{◌==◌, is_none, map, nat_lt, not, slice_get, slice_index, slice_set, Result, Ok, Err, ⊤}
 use Rattle.std.specs.declared.sync.atomic.Ordering.{Ordering}
 use Rattle.loom_views.specs.declared.rt.failure.FailureKind.{FailureKind}
 use Rattle.loom_views.specs.declared.rt.failure.FailureKind.TheVariants.{Misuse, OpenAccess, RelaxedFence, SecondWaiter, TooManySteps}
@@ -352,7 +352,7 @@ module _ {D : Type 0} (w : World D) where
   unparks_stays t = onward (found (slice_get w.threads t) Misuse) _ (λ thread. by_thread w _ t stayed)
 
   yields_stays : (todo : Task D) → Answers Stays (yields todo w)
-  yields_stays todo = onward (active_thread w) _ (λ thread. onward (check (nat_lt thread.yields highest_count) TooManySteps) _ (λ u. by_thread w _ w.active stayed))
+  yields_stays todo = onward (active_thread w) _ (λ thread. onward (check (nat_lt (slice_index w.yields w.active) highest_count) TooManySteps) _ (λ u. by_thread w _ w.active stayed))
 
   pub thread_stays : (todo : ThreadOp D ⊤) → thread_needs_memory todo ≡ false → Answers Stays (thread_begins todo w)
   thread_stays (thread_op.Spawn body name) h = absurd (cc h)

@@ -86,6 +86,7 @@ module _ {D : Type 0} where
   -- this property of states is kept where nothing is done to channels, to values that are made once, and to results
   pub record KeptByMoves (R : World D → Type 0) : Type 0 where
     pub points : (p : Points) (w : World D) → R w → R (with_points p w)
+    pub yields : (yields : List ℕ) (w : World D) → R w → R (record w { yields = yields })
     pub object : (n : ℕ) (x : Object D) (w : World D) → AwayAt (slice_get w.objects n) → IsAway x → R w → R (with_object n x w)
     pub made : (x : Object D) (w : World D) → IsAway x → R w → R (record w { objects = w.objects ++ x ∷ [] })
     pub changed : (change : Thread D → Thread D) (t : ℕ) (w : World D) → ((thread : Thread D) → IsSame thread (change thread)) → R w → R (record w { threads = with_thread change t w.threads })

@@ -161,6 +161,7 @@ module _ {D : Type 0} where
   there_by_threads = record {
     moves = record {
       points = λ p w s. s;
+      yields = λ yields w s. s;
       object = λ n x w there away s. s;
       made = λ x w away s. s;
       changed = λ change t w same s. with_there change t w.active w.threads s;
@@ -233,6 +234,7 @@ module _ {D : Type 0} (t n : ℕ) (order : Ordering) where
   apart_by_threads = record {
     moves = record {
       points = λ p w s. s;
+      yields = λ yields w s. s;
       object = λ m x w there away s. s;
       made = λ x w away s. s;
       changed = λ change u w same s. (s.0, with_task change u t w.threads (λ thread. (same thread).same) ∙ s.1);

@@ -164,6 +164,7 @@ module _ {D : Type 0} where
     pub made_by_moves : KeptByMoves (Made key)
     made_by_moves = record {
       points = λ p w k. k;
+      yields = λ yields w k. k;
       object = λ n x w there s k. k;
       made = λ x w s k. k;
       changed = λ change t w same k. changed_made change t w.threads (λ thread. (same thread).shut) (λ thread. (same thread).own) k;

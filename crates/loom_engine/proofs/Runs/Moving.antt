@@ -1,7 +1,7 @@
 -- What each rule leaves as it is: a property of states that the moves keep is kept by every rule, but for those that are about
 -- channels, values that are made once, and a thread's result, of which the property says so itself.
 use Rattle.std.proofs.Common.{◌≡◌, ◌+◌, ℕ, Bool, true, false, List, [], ◌∷◌, ◌++◌, length, map, Option, Some, None, refl, subst, sym}
-use Rattle.std.specs.Prelude.{◌==◌, is_none, is_some, nat_lt, not, slice_get, slice_set, Result, Ok, Err, ⊤}
+use Rattle.std.specs.Prelude.{◌==◌, is_none, is_some, nat_lt, not, slice_get, slice_index, slice_set, Result, Ok, Err, ⊤}
 use Rattle.std.specs.declared.sync.atomic.Ordering.{Ordering}
 use Rattle.loom_views.specs.Changes.{changed as changed_number, fit}
 use Rattle.loom_views.specs.Limits.{highest_count}
@@ -144,8 +144,8 @@ module _ {D : Type 0} (R : World D → Type 0) (k : KeptByMoves R) where
 
   pub yields_so : (todo : Task D) (w : World D) → is_calling todo ≡ false → R w → Answers (Within R) (yields todo w)
   yields_so todo w idle s =
-      onward (active_thread w) _ (λ thread. onward (check (nat_lt thread.yields highest_count) TooManySteps) _ (λ u.
-      k.points _ _ (k.turned (yielded todo) w (λ thread. record { shut = λ e. e; own = refl; idle = idle }) s)))
+      onward (active_thread w) _ (λ thread. onward (check (nat_lt (slice_index w.yields w.active) highest_count) TooManySteps) _ (λ u.
+      k.points _ _ (k.yields _ _ (k.turned (yielded todo) w (λ thread. record { shut = λ e. e; own = refl; idle = idle }) s))))
 
   -- ---- atomics
 

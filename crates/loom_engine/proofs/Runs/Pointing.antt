@@ -1,7 +1,7 @@
 -- What each rule does to the points of a run: moves, one after another. So a property of points that moves keep is kept by every
 -- rule.
 use Rattle.std.proofs.Common.{◌≡◌, ℕ, Bool, true, false, List, [], ◌∷◌, ◌++◌, length, Option, Some, None, refl}
-use Rattle.std.specs.Prelude.{◌==◌, ◌&&◌, is_none, is_some, nat_lt, not, slice_get, Result, Ok, Err, ⊤}
+use Rattle.std.specs.Prelude.{◌==◌, ◌&&◌, is_none, is_some, nat_lt, not, slice_get, slice_index, Result, Ok, Err, ⊤}
 use Rattle.std.specs.declared.sync.atomic.Ordering.{Ordering}
 use Rattle.std.specs.declared.sync.atomic.Ordering.TheVariants.{Release, AcqRel}
 use Rattle.loom_views.specs.Changes.{changed as changed_number, fit}
@@ -134,7 +134,7 @@ module _ (D : Type 0) (P : Points → Type 0) (May : Does → Type 0) (step : (p
 
   yielded_so : (todo : Task D) (w : World D) → P w.points → Answers In (yields todo w)
   yielded_so todo w s =
-      onward (active_thread w) _ (λ thread. onward (check (nat_lt thread.yields highest_count) TooManySteps) _ (λ u. step w.points _ (yielding w.active) tt s))
+      onward (active_thread w) _ (λ thread. onward (check (nat_lt (slice_index w.yields w.active) highest_count) TooManySteps) _ (λ u. step w.points _ (yielding w.active) tt s))
 
   -- ---- atomics
 

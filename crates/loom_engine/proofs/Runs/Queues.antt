@@ -217,6 +217,7 @@ module _ {D : Type 0} where
   pub held_by_moves : (n : ℕ) (q : List D) (expected : ℕ → Option (Doing D)) (a : ℕ) → KeptByMoves (Held n q expected a)
   held_by_moves n q expected a = record {
     points = λ p w s. s;
+    yields = λ yields w s. s;
     object = λ m x w there h s. record {
       queue = let e = set_same w.objects m n x (cc (away_empty x h, away_at (slice_get w.objects m) there)) in let f = s.queue in cc (e, f);
       pending = s.pending;

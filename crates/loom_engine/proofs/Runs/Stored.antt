@@ -153,6 +153,7 @@ module _ {D : Type 0} (n : ℕ) (c : Course D) (event : Event D) where
   quiet_by_threads = record {
     moves = record {
       points = λ p w s. s;
+      yields = λ yields w s. s;
       object = λ m x w there away s. s;
       made = λ x w away s. s;
       changed = λ change u w same s. ((λ v. access_same _ _ (with_task change u v w.threads (λ thread. (same thread).same)) ∙ s.0 v), s.1);

@@ -37,6 +37,7 @@ module _ {D S : Type 0} where
         views = views;
         lazies = run.state.scene.lazies;
         max_threads = run.state.scene.max_threads;
+        yields = run.state.scene.yields;
         ordered = length run.dependence.threads;
         bodies = bodies;
       }
@@ -47,6 +48,7 @@ module _ {D S : Type 0} where
     pub objects : kept.objects ≡ scene.objects
     pub lazies : kept.lazies ≡ scene.lazies
     pub max_threads : kept.max_threads ≡ scene.max_threads
+    pub yields : kept.yields ≡ scene.yields
 
   -- it is one more of those that were noted, come to by these choices, or none is
   abbrev pub NotesAs : Kept D S → List Choice → Noted D S → Noted D S → Type 0

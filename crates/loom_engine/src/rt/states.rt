@@ -19,6 +19,7 @@ use loom_objects::data::Data;
 use loom_objects::operation::Lazy;
 use loom_objects::rt::object::Object;
 use loom_objects::rt::scene::Scene;
+use loom_objects::rt::schedule::Yields;
 use loom_objects::rt::thread::Thread;
 use loom_views::rt::views::Views;
 use loom_views::same::{Same, are_same};
@@ -34,6 +35,7 @@ pub struct State<D, B> {
     views: Views,
     lazies: Sequence<Lazy<D>>,
     max_threads: usize,
+    yields: Yields,
     // of how many threads there are accesses in order
     ordered: usize,
     bodies: Sequence<B>,
@@ -56,6 +58,7 @@ impl<D: Data + Same, B: Body + Same> State<D, B> {
             views,
             lazies: copied_all(alloc, scene.lazies().as_slice())?,
             max_threads: scene.max_threads(),
+            yields: *scene.yields(),
             ordered: execution.ordered_threads(),
             bodies: copied_bodies(alloc, bodies)?,
         })
@@ -66,6 +69,9 @@ impl<D: Data + Same, B: Body + Same> State<D, B> {
         ensures { IsTrue result → HasScene self.now scene.now }
     {
         if self.max_threads != scene.max_threads() {
+            return false;
+        }
+        if !are_yields_same(&self.yields, scene.yields()) {
             return false;
         }
         if !are_equal(self.threads.as_slice(), scene.threads().as_slice()) {
@@ -93,6 +99,13 @@ impl<D: Data + Same, B: Body + Same> State<D, B> {
         }
         are_same(self.bodies.as_slice(), bodies)
     }
+}
+
+/// Whether the threads have yielded as often.
+fn are_yields_same(one: &Yields, other: &Yields) -> bool
+    ensures { IsTrue result → one.now ≡ other.now }
+{
+    are_same(one, other)
 }
 
 /// Copies of bodies. An error where memory is refused.

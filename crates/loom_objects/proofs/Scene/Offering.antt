@@ -1,6 +1,6 @@
 -- What threads offer to a schedule: its default thread is able, and without one no thread is.
 use Rattle.std.proofs.Common.{◌≡◌, ◌≢◌, ◌≤◌, ◌<◌, ℕ, zero, suc, ◌+◌, Bool, true, false, List, [], ◌∷◌, length, map, Option, Some, None, refl, ap, sym, ◌∙◌, subst, arith}
-use Rattle.std.specs.Prelude.{cond, nat_lt, slice_get, slice_set}
+use Rattle.std.specs.Prelude.{cond, nat_lt, slice_get, slice_index, slice_set}
 use Rattle.std.specs.List.{position_from}
 use Rattle.loom_objects.specs.declared.rt.schedule.Ability.{Ability}
 use Rattle.loom_objects.specs.declared.rt.schedule.Ability.TheVariants.{Able, Yielding, Unable}
@@ -112,17 +112,17 @@ offered_by_active active standings e =
     ∙ ap (λ (b : Bool). let d = cond b (Some active) (or_else (fewest None 0 standings) (position_from is_yielding 0 standings)) in made d (with_able d (map ability_in standings))) (sym e)
 
 -- of five threads
-able_active : {D : Type 0} (threads : List (Thread D)) (active : ℕ) (thread : Thread D) → active < 5 → slice_get threads active ≡ Some thread → thread.state ≡ Runnable
-    → is_able (slice_get (map (standing_at threads) (0 ∷ 1 ∷ 2 ∷ 3 ∷ 4 ∷ [])) active) ≡ true
-able_active threads zero thread l h r = ap (λ o. is_able (Some (standing_of o))) h ∙ ap (λ s. is_able (Some (ability_of s, thread.yields))) r
-able_active threads (suc zero) thread l h r = ap (λ o. is_able (Some (standing_of o))) h ∙ ap (λ s. is_able (Some (ability_of s, thread.yields))) r
-able_active threads (suc (suc zero)) thread l h r = ap (λ o. is_able (Some (standing_of o))) h ∙ ap (λ s. is_able (Some (ability_of s, thread.yields))) r
-able_active threads (suc (suc (suc zero))) thread l h r = ap (λ o. is_able (Some (standing_of o))) h ∙ ap (λ s. is_able (Some (ability_of s, thread.yields))) r
-able_active threads (suc (suc (suc (suc zero)))) thread l h r = ap (λ o. is_able (Some (standing_of o))) h ∙ ap (λ s. is_able (Some (ability_of s, thread.yields))) r
-able_active threads (suc (suc (suc (suc (suc k))))) thread l h r = absurd (omega arith)
+able_active : {D : Type 0} (yields : List ℕ) (threads : List (Thread D)) (active : ℕ) (thread : Thread D) → active < 5 → slice_get threads active ≡ Some thread → thread.state ≡ Runnable
+    → is_able (slice_get (map (standing_at yields threads) (0 ∷ 1 ∷ 2 ∷ 3 ∷ 4 ∷ [])) active) ≡ true
+able_active yields threads zero thread l h r = ap (λ o. is_able (Some (standing_of (slice_index yields 0) o))) h ∙ ap (λ s. is_able (Some (ability_of s, slice_index yields 0))) r
+able_active yields threads (suc zero) thread l h r = ap (λ o. is_able (Some (standing_of (slice_index yields 1) o))) h ∙ ap (λ s. is_able (Some (ability_of s, slice_index yields 1))) r
+able_active yields threads (suc (suc zero)) thread l h r = ap (λ o. is_able (Some (standing_of (slice_index yields 2) o))) h ∙ ap (λ s. is_able (Some (ability_of s, slice_index yields 2))) r
+able_active yields threads (suc (suc (suc zero))) thread l h r = ap (λ o. is_able (Some (standing_of (slice_index yields 3) o))) h ∙ ap (λ s. is_able (Some (ability_of s, slice_index yields 3))) r
+able_active yields threads (suc (suc (suc (suc zero)))) thread l h r = ap (λ o. is_able (Some (standing_of (slice_index yields 4) o))) h ∙ ap (λ s. is_able (Some (ability_of s, slice_index yields 4))) r
+able_active yields threads (suc (suc (suc (suc (suc k))))) thread l h r = absurd (omega arith)
 
 -- what is offered then
-pub offered_now : {D : Type 0} (threads : List (Thread D)) (active : ℕ) (thread : Thread D) (abilities : List Ability) → active < 5 → slice_get threads active ≡ Some thread → thread.state ≡ Runnable
-    → abilities ≡ map ability_in (map (standing_at threads) (0 ∷ 1 ∷ 2 ∷ 3 ∷ 4 ∷ [])) → made (Some active) abilities ≡ offers_of active (map (standing_at threads) (0 ∷ 1 ∷ 2 ∷ 3 ∷ 4 ∷ []))
-offered_now threads active thread abilities l h r e =
-    ap (made (Some active)) e ∙ offered_by_active active (map (standing_at threads) (0 ∷ 1 ∷ 2 ∷ 3 ∷ 4 ∷ [])) (able_active threads active thread l h r)
+pub offered_now : {D : Type 0} (yields : List ℕ) (threads : List (Thread D)) (active : ℕ) (thread : Thread D) (abilities : List Ability) → active < 5 → slice_get threads active ≡ Some thread → thread.state ≡ Runnable
+    → abilities ≡ map ability_in (map (standing_at yields threads) (0 ∷ 1 ∷ 2 ∷ 3 ∷ 4 ∷ [])) → made (Some active) abilities ≡ offers_of active (map (standing_at yields threads) (0 ∷ 1 ∷ 2 ∷ 3 ∷ 4 ∷ []))
+offered_now yields threads active thread abilities l h r e =
+    ap (made (Some active)) e ∙ offered_by_active active (map (standing_at yields threads) (0 ∷ 1 ∷ 2 ∷ 3 ∷ 4 ∷ [])) (able_active yields threads active thread l h r)

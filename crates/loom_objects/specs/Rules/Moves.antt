@@ -1,5 +1,5 @@
 -- Threads and objects by number, and how threads wait for objects.
-use Rattle.std.specs.Prelude.{ℕ, ◌+◌, Bool, true, false, [], ◌∷◌, List, ◌++◌, map, cond, nat_lt, slice_get, slice_set, Option, Some, None, Result, Ok, ⊤}
+use Rattle.std.specs.Prelude.{ℕ, ◌+◌, Bool, true, false, [], ◌∷◌, List, ◌++◌, map, cond, nat_lt, slice_get, slice_index, slice_set, Option, Some, None, Result, Ok, ⊤}
 use Rattle.std.specs.Option.{option_map}
 use Rattle.std.specs.declared.sync.atomic.Ordering.TheVariants.{Release, AcqRel}
 use Rattle.loom_views.specs.declared.rt.failure.FailureKind.{FailureKind}
@@ -96,9 +96,9 @@ module _ {D : Type 0} where
   abbrev pub unparked : Thread D → Thread D
   unparked thread = unparked_from thread.state thread
 
-  -- it is in the yield state, once more, and has this pending
+  -- it is in the yield state, and has this pending
   abbrev pub yielded : Task D → Thread D → Thread D
-  yielded todo thread = record thread { state = Yielding; yields = thread.yields + 1; task = todo }
+  yielded todo thread = record thread { state = Yielding; task = todo }
 
   -- the object that the thread's pending operation is on
   abbrev pub target : Task D → Option ℕ
@@ -272,10 +272,14 @@ module _ {D : Type 0} where
   rouses_all [] w = w
   rouses_all (t ∷ rest) w = rouses_all rest (rouses t w)
 
+  -- the active thread has yielded once more
+  abbrev pub yields_more : World D → World D
+  yields_more w = record w { yields = slice_set w.yields w.active (slice_index w.yields w.active + 1) }
+
   -- the active thread is in the yield state and has this pending: its own version is kept as that of its last yield. A run ends
   -- before a thread has yielded 2^64 times, since each is an operation
   abbrev pub yields : Task D → World D → Result (⊤ × World D) FailureKind
   yields todo w = do
-    thread ← active_thread w
-    _ ← check (nat_lt thread.yields highest_count) TooManySteps
-    Ok (tt, with_points (points_after_yield w.points w.active) (changes_active (yielded todo) w))
+    _ ← active_thread w
+    _ ← check (nat_lt (slice_index w.yields w.active) highest_count) TooManySteps
+    Ok (tt, with_points (points_after_yield w.points w.active) (yields_more (changes_active (yielded todo) w)))

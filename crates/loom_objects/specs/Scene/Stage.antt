@@ -13,20 +13,21 @@ use Rattle.loom_objects.specs.declared.rt.thread.Thread.{Thread}
 use Rattle.loom_objects.specs.Operation.Accessed.{accessed}
 use Rattle.loom_objects.specs.World.{World}
 
--- the threads, main first, and the objects, both in order of creation; what is kept of views; the thread whose turn it is; how
--- many threads there may be
+-- the threads, main first, and the objects, both in order of creation; what is kept of views; the thread whose turn it is; how often each
+-- of five threads has yielded; how many threads there may be
 pub record Stage (D : Type 0) : Type 0 where
   pub threads : List (Thread D)
   pub objects : List (Object D)
   pub views : Views
   pub lazies : List (Lazy D)
   pub active : ℕ
+  pub yields : List ℕ
   pub max_threads : ℕ
 
 module _ {D : Type 0} where
   -- the machine's state with these points, while so many operations are left, and with all else as the scene has it
   abbrev pub world_of : Points → ℕ → Stage D → World D
-  world_of points left s = record { threads = s.threads; objects = s.objects; points = points; lazies = s.lazies; active = s.active; steps_left = left; max_threads = s.max_threads }
+  world_of points left s = record { threads = s.threads; objects = s.objects; points = points; lazies = s.lazies; active = s.active; yields = s.yields; steps_left = left; max_threads = s.max_threads }
 
   -- the points of the state that a rule comes to; where it fails, they don't matter
   abbrev pub points_of : {A : Type 0} → Points → Result (A × World D) FailureKind → Points

@@ -1,5 +1,5 @@
 -- What threads offer to a schedule, and how one is chosen.
-use Rattle.std.specs.Prelude.{ℕ, List, [], ◌∷◌, map, Option, Some, None, Result, Ok, slice_get, slice_set}
+use Rattle.std.specs.Prelude.{ℕ, List, [], ◌∷◌, map, Option, Some, None, Result, Ok, slice_get, slice_index, slice_set}
 use Rattle.loom_views.specs.declared.rt.failure.FailureKind.{FailureKind}
 use Rattle.loom_views.specs.declared.rt.failure.FailureKind.TheVariants.{Misuse}
 use Rattle.loom_objects.specs.declared.rt.schedule.Ability.{Ability}
@@ -51,17 +51,17 @@ again Sleeping = Sleeping
 again Ended = Ended
 
 module _ {D : Type 0} where
-  -- a thread as a schedule sees it: what its state lets it do, and how often it has yielded
-  abbrev pub standing_of : Option (Thread D) → Ability × ℕ
-  standing_of None = (Unable, 0)
-  standing_of (Some thread) = (ability_of thread.state, thread.yields)
+  -- a thread that has yielded so often, as a schedule sees it: what its state lets it do comes first
+  abbrev pub standing_of : ℕ → Option (Thread D) → Ability × ℕ
+  standing_of yields None = (Unable, yields)
+  standing_of yields (Some thread) = (ability_of thread.state, yields)
 
-  abbrev pub standing_at : List (Thread D) → ℕ → Ability × ℕ
-  standing_at threads t = standing_of (slice_get threads t)
+  abbrev pub standing_at : List ℕ → List (Thread D) → ℕ → Ability × ℕ
+  standing_at yields threads t = standing_of (slice_index yields t) (slice_get threads t)
 
   -- the five threads
   abbrev pub standings : World D → List (Ability × ℕ)
-  standings w = map (standing_at w.threads) (0 ∷ 1 ∷ 2 ∷ 3 ∷ 4 ∷ [])
+  standings w = map (standing_at w.yields w.threads) (0 ∷ 1 ∷ 2 ∷ 3 ∷ 4 ∷ [])
 
   -- what they offer to a schedule
   abbrev pub offers : World D → Offers

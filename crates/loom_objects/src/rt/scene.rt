@@ -21,6 +21,7 @@ ghost use Rattle.loom_views.specs.Views.{Points, ShowsViews, opening as first_po
 use crate::operation::{Lazy, Reply, Turn};
 use crate::rt::object::Object;
 use crate::rt::run::{Passed, Resumed};
+use crate::rt::schedule::{Yields, no_yields};
 use crate::rt::thread::{Phase, State, Task, Thread};
 use loom_views::rt::failure::FailureKind;
 use loom_views::rt::views::Views;
@@ -42,6 +43,8 @@ pub struct Scene<D> {
     pub(crate) lazies: Sequence<Lazy<D>>,
     // the thread whose turn it is
     pub(crate) active: u8,
+    // how often each thread has yielded
+    pub(crate) yields: Yields,
     // those that have ended counted
     pub(crate) max_threads: usize,
     // what lists are made by
@@ -55,7 +58,7 @@ impl<D> Model for Scene<D> {
 
     ghost Value = { Stage D };
 
-    ghost view = { λ s. record { threads = s.threads; objects = s.objects; views = s.views; lazies = s.lazies; active = s.active; max_threads = s.max_threads } };
+    ghost view = { λ s. record { threads = s.threads; objects = s.objects; views = s.views; lazies = s.lazies; active = s.active; yields = s.yields; max_threads = s.max_threads } };
 
     ghost invariant = { λ s. (s.active < length s.threads) × (length s.threads ≤ s.max_threads) × (s.max_threads ≤ MAX_THREADS) };
 }
@@ -76,6 +79,7 @@ impl<D: Drop> Scene<D> {
             views: Views::new(alloc),
             lazies: Sequence::new(alloc),
             active: 0,
+            yields: no_yields(),
             max_threads,
             alloc,
         })
@@ -94,6 +98,7 @@ impl<D: Drop> Scene<D> {
         self.views.restart();
         self.lazies.clear();
         self.active = 0;
+        self.yields = no_yields();
         self.max_threads = max_threads;
     }
 
@@ -180,6 +185,13 @@ impl<D: Drop> Scene<D> {
         ensures { result.now ≡ self.now.lazies }
     {
         &self.lazies
+    }
+
+    /// How often each of five threads has yielded (own).
+    pub fn yields(&self) -> &Yields
+        ensures { result.now ≡ self.now.yields }
+    {
+        &self.yields
     }
 
     /// How many threads there are, those that have ended counted.

@@ -1,6 +1,7 @@
 //! The choice of the default thread: the one that goes on where the search chooses none.
 ghost use Rattle.std.specs.Prelude.{◌≡◌, None, Some, ◌<◌, IfSome};
 ghost use Rattle.std.specs.List.{position_from};
+ghost use Rattle.loom_views.specs.Versions.{zeros};
 ghost use Rattle.loom_objects.specs.Schedule.Defaults as rules;
 
 use loom_views::rt::MAX_THREADS;
@@ -14,6 +15,16 @@ pub enum Ability {
     Yielding,
     /// It can't go on, or isn't there.
     Unable,
+}
+
+/// How often each thread has yielded.
+pub type Yields = [u64; MAX_THREADS];
+
+/// None has.
+pub fn no_yields() -> Yields
+    ensures { result ≡ zeros }
+{
+    [0; MAX_THREADS]
 }
 
 fn is_able(standing: (Ability, u64)) -> bool

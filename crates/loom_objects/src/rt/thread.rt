@@ -184,8 +184,6 @@ pub struct Thread<D> {
     pub notifier: Option<usize>,
     /// What it finished with, until that is taken out.
     pub result: Option<D>,
-    /// How often it has yielded.
-    pub yields: u64,
     /// Whether it has a token, by which it isn't parked.
     pub has_token: bool,
     /// Its name, if it was given one.
@@ -207,7 +205,6 @@ impl<D> Thread<D> {
             task: Task::Body,
             notifier: None,
             result: None,
-            yields: 0,
             has_token: false,
             name: None,
             keys: Sequence::new(alloc),
@@ -226,7 +223,6 @@ impl<D: Drop> Thread<D> {
         self.task = Task::Body;
         self.notifier = None;
         self.result = None;
-        self.yields = 0;
         self.has_token = false;
         self.name = None;
         self.keys.clear();

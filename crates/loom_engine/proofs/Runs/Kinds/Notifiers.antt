@@ -1,6 +1,6 @@
 -- What is done to notifiers, and a yield, keeps locks sound.
 use Rattle.std.proofs.Common.{◌≡◌, ℕ, Bool, None, Some, refl}
-use Rattle.std.specs.Prelude.{◌-◌, ◌^◌, true, false, not, slice_get, nat_lt, Option}
+use Rattle.std.specs.Prelude.{◌-◌, ◌^◌, true, false, not, slice_get, slice_index, nat_lt, Option}
 use Rattle.loom_views.specs.declared.rt.failure.FailureKind.TheVariants.{Misuse, SecondWaiter, TooManySteps}
 use Rattle.loom_objects.specs.declared.operation.NotifyOp.{NotifyOp}
 use Rattle.loom_objects.specs.declared.operation.NotifyOp.TheVariants as notify_op
@@ -42,7 +42,7 @@ module _ {D : Type 0} where
 
   pub yields_keeping : (todo : Task D) (w : World D) → freed_by todo ≡ None → Keeping w (yields todo w)
   yields_keeping todo w h =
-      found_keeping (slice_get w.threads w.active) Misuse _ w misuse (λ thread e. check_keeping (nat_lt thread.yields (2 ^ 64 - 1)) TooManySteps _ w (λ f. cc) (λ f out k. changed_ready (yielded todo) w.active (λ t m i. absurd (cc (h, i))) k))
+      found_keeping (slice_get w.threads w.active) Misuse _ w misuse (λ thread e. check_keeping (nat_lt (slice_index w.yields w.active) (2 ^ 64 - 1)) TooManySteps _ w (λ f. cc) (λ f out k. changed_ready (yielded todo) w.active (λ t m i. absurd (cc (h, i))) k))
 
   waits_or_rouses_keeping : (is_spurious : Bool) (n : ℕ) (notifier : Notify) (w : World D) → Keeping w (waits_or_rouses is_spurious n notifier w)
   waits_or_rouses_keeping true n notifier w =

@@ -17,7 +17,6 @@ impl<D: Data + Same> Kept for Thread<D> {
             task: copied_task(alloc, &self.task)?,
             notifier: self.notifier,
             result: copied_value(&self.result)?,
-            yields: self.yields,
             has_token: self.has_token,
             name: self.name,
             keys: copied_all(alloc, self.keys.as_slice())?,
@@ -28,7 +27,6 @@ impl<D: Data + Same> Kept for Thread<D> {
     fn is_equal(&self, other: &Thread<D>) -> bool {
         is_state_equal(self.state, other.state)
             && is_phase_equal(self.phase, other.phase)
-            && self.yields == other.yields
             && self.has_token == other.has_token
             && self.notifier.is_same(&other.notifier)
             && is_name_equal(&self.name, &other.name)

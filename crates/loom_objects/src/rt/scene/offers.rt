@@ -1,12 +1,12 @@
 //! What the threads of a run offer to a schedule.
-ghost use Rattle.std.specs.Prelude.{ℕ, ◌≡◌, ◌∷◌, [], map};
+ghost use Rattle.std.specs.Prelude.{ℕ, ◌≡◌, ◌<◌, List, ◌∷◌, [], map};
 ghost use Rattle.loom_objects.specs.Tree.Sound.{AreSoundOffers};
 ghost use Rattle.loom_objects.specs.Schedule.Offers as rules;
 ghost use Rattle.loom_objects.specs.Scene.Stage.{world_of};
 ghost use Rattle.loom_views.specs.Views.{Points};
 
 use crate::rt::scene::Scene;
-use crate::rt::schedule::{Ability, Offers, default_thread};
+use crate::rt::schedule::{Ability, Offers, Yields, default_thread};
 use crate::rt::thread::{State, Thread};
 use loom_views::rt::MAX_THREADS;
 use loom_views::sequence::Sequence;
@@ -22,19 +22,19 @@ fn ability_of(state: State) -> Ability
 }
 
 /// What the thread's state lets it do, and how often it has yielded.
-fn standing_at<D>(threads: &Sequence<Thread<D>>, place: usize) -> (Ability, u64)
-    ensures { result ≡ rules.standing_at threads.now place }
+fn standing_at<D>(yields: &Yields, threads: &Sequence<Thread<D>>, place: usize) -> (Ability, u64)
+    requires { place < 5 }
+    ensures { result ≡ rules.standing_at yields.now threads.now place }
 {
     if place >= threads.len() {
-        return (Ability::Unable, 0);
+        return (Ability::Unable, yields[place]);
     }
-    let thread = threads.at(place);
-    (ability_of(thread.state), thread.yields)
+    (ability_of(threads.at(place).state), yields[place])
 }
 
 /// What the thread's state lets it do.
 fn ability_at<D>(threads: &Sequence<Thread<D>>, place: usize) -> Ability
-    ensures { result ≡ rules.ability_in (rules.standing_at threads.now place) }
+    ensures { (yields : List ℕ) → result ≡ rules.ability_in (rules.standing_at yields threads.now place) }
 {
     if place >= threads.len() {
         return Ability::Unable;
@@ -72,17 +72,17 @@ impl<D: Drop> Scene<D> {
         ensures { (points : Points) → (left : ℕ) → result ≡ rules.standings (world_of points left self.now) }
     {
         [
-            standing_at(&self.threads, 0),
-            standing_at(&self.threads, 1),
-            standing_at(&self.threads, 2),
-            standing_at(&self.threads, 3),
-            standing_at(&self.threads, 4),
+            standing_at(&self.yields, &self.threads, 0),
+            standing_at(&self.yields, &self.threads, 1),
+            standing_at(&self.yields, &self.threads, 2),
+            standing_at(&self.yields, &self.threads, 3),
+            standing_at(&self.yields, &self.threads, 4),
         ]
     }
 
     /// What the five threads' states let them do.
     fn abilities(&self) -> [Ability; MAX_THREADS]
-        ensures { result ≡ map rules.ability_in (map (rules.standing_at self.now.threads) (0 ∷ 1 ∷ 2 ∷ 3 ∷ 4 ∷ [])) }
+        ensures { (yields : List ℕ) → result ≡ map rules.ability_in (map (rules.standing_at yields self.now.threads) (0 ∷ 1 ∷ 2 ∷ 3 ∷ 4 ∷ [])) }
     {
         [
             ability_at(&self.threads, 0),

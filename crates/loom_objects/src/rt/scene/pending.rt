@@ -140,14 +140,15 @@ impl<D: Drop> Scene<D> {
     pub fn yield_by(&mut self, task: Task<D>) -> Result<(), FailureKind>
         ensures { Does (moves.yields task) self.old result self.new }
     {
-        let thread = self.threads.at_mut(self.active as usize);
+        let active = self.active as usize;
+        let thread = self.threads.at_mut(active);
         thread.state = State::Yielding;
         thread.task = task;
-        if thread.yields == u64::MAX {
+        if self.yields[active] == u64::MAX {
             return Err(FailureKind::TooManySteps);
         }
-        thread.yields += 1;
-        self.views.mark_yield(self.active as usize);
+        self.yields[active] += 1;
+        self.views.mark_yield(active);
         Ok(())
     }
 

@@ -83,7 +83,6 @@ fn child<D>(alloc: Global, name: Option<Name>, notifier: usize) -> Thread<D>
         task: Task::Start,
         notifier: Some(notifier),
         result: None,
-        yields: 0,
         has_token: false,
         name,
         keys: Sequence::new(alloc),
