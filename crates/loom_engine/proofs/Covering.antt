@@ -24,6 +24,7 @@ pub mod Kinds
 pub mod Tables
 pub mod Points
 pub mod Themselves
+pub mod Unswitched
 pub mod Sight
 pub mod Begun
 pub mod Parts
@@ -35,4 +36,5 @@ pub mod Kept
 pub mod Way
 pub mod Led
 pub mod UnderWay
+pub mod Coarser
 pub mod Rounds

@@ -4,6 +4,8 @@ use Rattle.loom_views.specs.declared.rt.failure.FailureKind.{FailureKind}
 use Rattle.loom_views.specs.declared.rt.failure.FailureKind.TheVariants.{ExploreSwitch}
 use Rattle.loom_objects.specs.declared.operation.ExploreOp.{ExploreOp}
 use Rattle.loom_objects.specs.declared.operation.ExploreOp.TheVariants.{Explore, StopExploring, SkipBranch}
+use Rattle.loom_objects.specs.declared.operation.Request.{Request}
+use Rattle.loom_objects.specs.declared.operation.Request.TheVariants as requests
 use Rattle.loom_objects.specs.declared.rt.exploring.Exploring.{Exploring}
 use Rattle.loom_objects.specs.declared.rt.exploring.Exploring.TheVariants.{On, Off, Skipping}
 
@@ -26,3 +28,8 @@ switched StopExploring On = Ok Off
 switched StopExploring Off = Err ExploreSwitch
 switched StopExploring Skipping = Ok Skipping
 switched SkipBranch exploring = Ok Skipping
+
+-- it is such a switch
+abbrev pub is_switch : {D S : Type 0} → Request D S → Bool
+is_switch (requests.Explore todo) = true
+is_switch _ = false

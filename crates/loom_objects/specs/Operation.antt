@@ -3,3 +3,4 @@ pub mod Labelled
 pub mod Relabelled
 pub mod Plain
 pub mod Bare
+pub mod Switching

@@ -1,6 +1,7 @@
 //! What the code of a thread is, as the machine sees it: it is given a reply, and answers its next operation.
-ghost use Rattle.std.specs.Prelude.{◌≡◌, IfOk};
+ghost use Rattle.std.specs.Prelude.{◌≡◌, IfOk, IsTrue};
 ghost use Rattle.loom_objects.specs.Operation.Labelled.{Op};
+ghost use Rattle.loom_objects.specs.Operation.Switching.{NeverSwitches};
 ghost use Rattle.loom_objects.specs.declared.operation.Reply.{Reply};
 
 use crate::data::Data;
@@ -30,5 +31,13 @@ pub trait Body: Drop {
     {
         *self = start.try_clone()?;
         Ok(())
+    }
+
+    /// Whether it is known that neither it nor what it starts ever switches whether the search explores. Then a search that remembers states
+    /// tells fewer of them apart. Without a definition of its own it isn't known (own).
+    fn never_switches(&self) -> bool
+        ensures { IsTrue result → NeverSwitches next self.now }
+    {
+        false
     }
 }

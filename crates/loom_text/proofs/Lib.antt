@@ -23,6 +23,7 @@ pub mod ReadingSteps
 pub mod RunLemmas
 pub mod SimpleAgain
 pub mod StatementSteps
+pub mod SwitchLemmas
 pub mod TallyLemmas
 pub mod TermSteps
 pub mod WalkLemmas

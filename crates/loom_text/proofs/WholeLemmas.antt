@@ -3,10 +3,8 @@ use Rattle.std.proofs.Common.{◌≡◌, ◌≢◌, ℕ, ◌+◌, ◌<◌, ◌&&
 use Rattle.std.specs.Prelude.{is_none}
 use Rattle.std.proofs.lemmas.Bool.{and_parts}
 use Rattle.loom_objects.specs.declared.choice.Choice.{Choice}
-use Rattle.loom_objects.specs.declared.operation.Reply.{Reply}
 use Rattle.loom_objects.specs.Tree.Tree.{Tree}
 use Rattle.loom_views.specs.declared.rt.failure.FailureKind.{FailureKind}
-use Rattle.loom_engine.specs.Runs.Sound.{is_switch}
 use Rattle.loom_engine.specs.Runs.Body.{runs}
 use Rattle.loom_engine.specs.Trees.Exploring.{ExploresTree}
 use Rattle.loom_engine.specs.Trees.Outcomes.{outcome as comes_to, AreRuns, choices_made}
@@ -23,10 +21,6 @@ use Rattle.loom.specs.Model.Settings.{explores, search_of}
 use Rattle.loom.specs.declared.model.builder.Builder.{Builder}
 use Rattle.loom.specs.declared.model.report.Report.{Report}
 use Rattle.loom_text.specs.declared.run.check.Outcome.{Outcome}
-use Rattle.loom_text.specs.declared.run.code.Instruction.{Instruction}
-use Rattle.loom_text.specs.declared.run.code.Instruction.TheVariants.{Compute, Jump, JumpIfZero, Ask}
-use Rattle.loom_text.specs.declared.run.code.Operation.{Operation}
-use Rattle.loom_text.specs.declared.run.code.Operation.TheVariants.{Atomic, Fence, NewCell, Read, Write, NewMutex, Lock, TryLock, Unlock, NewCondvar, Wait, Signal, Broadcast, Yield, Fail, Spawn, Join, Finish, Exit, End}
 use Rattle.loom_text.specs.declared.run.layout.Layout.{Layout}
 use Rattle.loom_text.specs.declared.test.Test.{Test}
 use Rattle.loom_text.specs.Run.Check.{Says, is_whole, tally_of}
@@ -37,42 +31,9 @@ use Rattle.loom_text.specs.Run.Operators.{truth}
 use Rattle.loom_text.specs.Run.Parallel.{AreAll, SaysOf}
 use Rattle.loom_text.specs.Run.Running.{Running}
 use Rattle.loom_text.specs.Run.States.{counts, is_positive, is_same}
-use Rattle.loom_text.specs.Run.Thread.{gone_on, instruction_at, next_of, operation, request}
+use Rattle.loom_text.specs.Run.Thread.{next_of}
 use Rattle.loom_text.proofs.LawLemmas.{never_law, states_law}
-
--- ---- a test's threads never switch whether the search explores
-
-no_switch : (r : Running) (asked : Operation) → is_switch (request r asked) ≡ false
-no_switch r (Atomic made) = refl
-no_switch r (Fence order) = refl
-no_switch r (NewCell n) = refl
-no_switch r (Read x) = refl
-no_switch r (Write x number) = refl
-no_switch r NewMutex = refl
-no_switch r (Lock m) = refl
-no_switch r (TryLock m) = refl
-no_switch r (Unlock m) = refl
-no_switch r NewCondvar = refl
-no_switch r (Wait c m) = refl
-no_switch r (Signal c) = refl
-no_switch r (Broadcast c) = refl
-no_switch r Yield = refl
-no_switch r Fail = refl
-no_switch r (Spawn place name) = refl
-no_switch r (Join t n) = refl
-no_switch r (Finish count) = refl
-no_switch r Exit = refl
-no_switch r End = refl
-
-no_switch_at : (r : Running) (at : Option Instruction) → is_switch (operation r at).request ≡ false
-no_switch_at r None = refl
-no_switch_at r (Some (Compute to operator one other)) = refl
-no_switch_at r (Some (Jump place)) = refl
-no_switch_at r (Some (JumpIfZero number place)) = refl
-no_switch_at r (Some (Ask asked)) = no_switch r asked.operation
-
-never_switches : (r : Running) (reply : Reply (List ℕ)) → is_switch (next_of r reply).1.request ≡ false
-never_switches r reply = no_switch_at (gone_on r reply) (instruction_at (gone_on r reply))
+use Rattle.loom_text.proofs.SwitchLemmas.{never_switches}
 
 is_false : (x : Bool) → not x ≡ true → x ≡ false
 is_false false h = refl

@@ -1,6 +1,6 @@
 -- A check under way that remembers states: its rounds so far, with the runs that its visitor was given.
 use Rattle.std.proofs.Common.{◌≡◌, ◌<◌, ◌≤◌, ◌+◌, ◌⊎◌, ℕ, zero, suc, arith, Bool, true, false, List, [], ◌∷◌, ◌++◌, length, Option, Some, None, Result, Ok, Err, refl, ap, ap₂, sym, ◌∙◌, subst, inl, inr, append-nil, append_assoc, length-append}
-use Rattle.std.specs.Prelude.{IfErr, IfOk, Vec, map, slice_get, slice_index_or}
+use Rattle.std.specs.Prelude.{◌||◌, IfErr, IfOk, Vec, map, slice_get, slice_index_or}
 use Rattle.serde_json.specs.Written.{compact_text}
 use Rattle.std.specs.List.{Contains}
 use Rattle.std.specs.declared.alloc.Global.{Global}
@@ -28,12 +28,13 @@ use Rattle.loom_engine.specs.Covering.Between.{AddsRun, AreMade, ComesTo, IsRead
 use Rattle.loom_engine.specs.Covering.Covered.{IsGiven}
 use Rattle.loom_engine.specs.Covering.Cut.{with_run}
 use Rattle.loom_engine.specs.Covering.Kept.{AreKeptAfter, Key, Noted}
-use Rattle.loom_engine.specs.Covering.Sight.{seen_at}
+use Rattle.loom_engine.specs.Covering.Sight.{IsKnown, seen_by}
 use Rattle.loom_engine.specs.Covering.States.{state_after}
 use Rattle.loom_engine.specs.Covering.Lost.{AreLost}
 use Rattle.loom_engine.specs.Covering.Table.{IsAlong, Notes, notes_more, notes_none}
 use Rattle.loom_engine.specs.Covering.UnderWay.{HasNode}
 use Rattle.loom_engine.specs.Covering.World.{IsCalled, world_of}
+use Rattle.loom_engine.proofs.Covering.Coarser.{along_coarser, coarser, ends_coarser, key_coarser, keys_coarser, known_either, known_left, known_right, notes_coarser}
 use Rattle.loom_engine.proofs.Covering.Kept.{has_at}
 use Rattle.loom_engine.proofs.Covering.Leading.{given_last, made_more, none_made, one_of_more, the_last}
 use Rattle.loom_engine.proofs.Covering.Between.{at_place}
@@ -84,8 +85,12 @@ module _ {V D S : Type 0} (b : Builder) (next : Meaning D S) (body : S) (takes :
   abbrev tree : Tree D
   tree = runs next (explores b) b.max_threads b.max_steps body
 
-  abbrev key : List Choice → Key D S
-  key c = state_after seen_at next (explores b) b.max_threads b.max_steps body c
+  -- the states, as they are seen of a body that is known never to switch whether the search explores, or of any
+  abbrev key : Bool → List Choice → Key D S
+  key known c = state_after (seen_by known) next (explores b) b.max_threads b.max_steps body c
+
+  coarser_key : (one other : Bool) → (one ≡ true → other ≡ true) → (c : List Choice) → coarser other (key one c) ≡ key other c
+  coarser_key one other h c = key_coarser next (explores b) b.max_threads b.max_steps body one other h c
 
   fair : IsMarking (marking None)
   fair = (marking_law None).0
@@ -96,8 +101,8 @@ module _ {V D S : Type 0} (b : Builder) (next : Meaning D S) (body : S) (takes :
   shut : EndsUnchosen tree
   shut = unchosen_law next (explores b) b.max_threads b.max_steps body
 
-  abbrev keys : Noted D S → List (Key D S)
-  keys noted = map key noted.led_by
+  abbrev keys : Bool → Noted D S → List (Key D S)
+  keys known noted = map (key known) noted.led_by
 
   -- each state that was noted was so at a node of one of these paths
   abbrev AreNodes : List (List Stored) → Noted D S → Type 0
@@ -108,30 +113,34 @@ module _ {V D S : Type 0} (b : Builder) (next : Meaning D S) (body : S) (takes :
   AreApart left noted = (c : List Choice) → Contains noted.led_by c → (x : List Stored) → IsOneOf x left → Begins c (choices x) → ⊥
 
   module _ (start : List Node) where
-    -- the rounds so far with those of the checks before, which came to the path with which this one began
-    pub record Since (before : List (List Choice × D)) (came : HaveComeTo b next body start before) (left : List (List Stored)) (given : List (List Choice × D)) (nodes : List Stored) (noted : Noted D S) (ways : Tracks) : Type 0 where
+    -- The rounds so far with those of the checks before, which came to the path with which this one began. The states of all are told apart
+    -- as they are where one of them knows that the body never switches, if one does.
+    pub record Since (before : List (List Choice × D)) (came : HaveComeTo b next body start before) (never : Bool) (left : List (List Stored)) (given : List (List Choice × D)) (nodes : List Stored) (noted : Noted D S) (ways : Tracks) : Type 0 where
       pub table : List (Key D S)
-      pub more : (s : Key D S) → Contains (keys noted) s → Contains table s
-      pub notes : Notes b.max_branches (marking None) tree key table (came.left ++ left) (before ++ given) nodes
-      pub made : AreMade (world_of tree) key left given noted.led_by ways.ways
-      pub passed : Passed (world_of tree) key nodes left given noted.led_by ways
+      pub more : (s : Key D S) → Contains (keys (came.never || never) noted) s → Contains table s
+      pub notes : Notes b.max_branches (marking None) tree (key (came.never || never)) table (came.left ++ left) (before ++ given) nodes
+      pub made : AreMade (world_of tree) (key (came.never || never)) left given noted.led_by ways.ways
+      pub passed : Passed (world_of tree) (key (came.never || never)) nodes left given noted.led_by ways
       pub off : LieOff came.left nodes
       pub apart : AreApart came.left noted
 
     -- the rounds so far, with the runs that the visitor was given
     pub record IsCovering (path : Route) (visitor : V) (count : ℕ) (noted : Noted D S) (ways : Tracks) : Type 0 where
-      pub explained : AreKeptAfter key noted
+      pub never : Bool
+      pub is_never : noted.never ≡ never
+      pub known : IsKnown never next body
+      pub explained : AreKeptAfter (key noted.never) noted
       pub left : List (List Stored)
       pub given : List (List Choice × D)
       pub was_given : Given takes old given visitor
       pub counted : length given ≡ count
       pub nodes : AreNodes left noted
       pub rests : path ≡ at_rest (whole_search b.max_branches) (explores b) path.nodes
-      pub since : (before : List (List Choice × D)) (came : HaveComeTo b next body start before) → Since before came left given (stored path.nodes) noted ways
+      pub since : (before : List (List Choice × D)) (came : HaveComeTo b next body start before) → Since before came never left given (stored path.nodes) noted ways
 
     -- from the beginning
     pub begun : start ≡ [] → HaveComeTo b next body start []
-    begun e = record { kept = []; left = []; rounds = subst (λ (l : List Node). Notes b.max_branches (marking None) tree key [] [] [] (stored l)) (sym e) notes_none }
+    begun e = record { never = false; known = λ is. absurd (cc is); kept = []; left = []; rounds = subst (λ (l : List Node). Notes b.max_branches (marking None) tree (key false) [] [] [] (stored l)) (sym e) notes_none }
 
     -- after a step the path rests again
     rests_on : (path after later : Route) → path ≡ at_rest (whole_search b.max_branches) (explores b) path.nodes → IsSameSearch path after → later ≡ at_rest after.search after.explores later.nodes
@@ -139,28 +148,34 @@ module _ {V D S : Type 0} (b : Builder) (next : Meaning D S) (body : S) (takes :
     rests_on path after later rests same e =
         e ∙ ap₂ (λ (s : Settings) (x : Bool). at_rest s x later.nodes) (same.0 ∙ ap (λ (p : Route). p.search) rests) (same.1 ∙ ap (λ (p : Route). p.explores) rests)
 
-    start_passed : Passed (world_of tree) key (stored start) [] [] [] (record { ways = []; passed = [] })
-    start_passed = record { made = λ q i. absurd i; noted = λ n c e. absurd (cc e); linked = tt; inside = λ n has. absurd (nothing n has); leads = λ q i. absurd i }
+    start_passed : (never : Bool) → Passed (world_of tree) (key never) (stored start) [] [] [] (record { ways = []; passed = [] })
+    start_passed never = record { made = λ q i. absurd i; noted = λ n c e. absurd (cc e); linked = tt; inside = λ n has. absurd (nothing n has); leads = λ q i. absurd i }
 
-    pub covering_starts : (path : Route) (noted : Noted D S) (ways : Tracks) → path ≡ at_rest (whole_search b.max_branches) (explores b) path.nodes → path.nodes ≡ start → noted ≡ record { states = []; led_by = [] }
-        → ways ≡ record { ways = []; passed = [] } → IsCovering path old 0 noted ways
-    covering_starts path noted ways rests same none no_ways =
-        subst (λ (x : Noted D S). IsCovering path old 0 x ways) (sym none) (subst (λ (l : Tracks). IsCovering path old 0 (record { states = []; led_by = [] }) l) (sym no_ways) begins)
+    pub covering_starts : (path : Route) (noted : Noted D S) (never : Bool) (ways : Tracks) → path ≡ at_rest (whole_search b.max_branches) (explores b) path.nodes → path.nodes ≡ start → noted ≡ record { states = []; led_by = []; never = never }
+        → IsKnown never next body → ways ≡ record { ways = []; passed = [] } → IsCovering path old 0 noted ways
+    covering_starts path noted never ways rests same none known no_ways =
+        subst (λ (x : Noted D S). IsCovering path old 0 x ways) (sym none) (subst (λ (l : Tracks). IsCovering path old 0 (record { states = []; led_by = []; never = never }) l) (sym no_ways) begins)
       where
-        begins_since : (before : List (List Choice × D)) (came : HaveComeTo b next body start before) → Since before came [] [] (stored start) (record { states = []; led_by = [] }) (record { ways = []; passed = [] })
-        begins_since before came = record {
-          table = came.kept;
-          more = λ s h. absurd (nothing s h);
-          notes = subst (λ (l : List (List Stored)). Notes b.max_branches (marking None) tree key came.kept l (before ++ []) (stored start)) (sym (append-nil came.left))
-              (subst (λ (l : List (List Choice × D)). Notes b.max_branches (marking None) tree key came.kept came.left l (stored start)) (sym (append-nil before)) came.rounds);
-          made = none_made (world_of tree) key [];
-          passed = start_passed;
-          off = notes_off b.max_branches tree sound_tree fair key came.kept came.left before (stored start) came.rounds;
-          apart = λ c has. absurd (nothing c has);
-        }
+        begins_since : (before : List (List Choice × D)) (came : HaveComeTo b next body start before) → Since before came never [] [] (stored start) (record { states = []; led_by = []; never = never }) (record { ways = []; passed = [] })
+        begins_since before came =
+            let now : Bool = came.never || never in
+            record {
+              table = map (coarser now) came.kept;
+              more = λ s h. absurd (nothing s h);
+              notes = subst (λ (l : List (List Stored)). Notes b.max_branches (marking None) tree (key now) (map (coarser now) came.kept) l (before ++ []) (stored start)) (sym (append-nil came.left))
+                  (subst (λ (l : List (List Choice × D)). Notes b.max_branches (marking None) tree (key now) (map (coarser now) came.kept) came.left l (stored start)) (sym (append-nil before))
+                  (notes_coarser (key came.never) (key now) (coarser now) (coarser_key came.never now (known_left came.never never)) b.max_branches (marking None) tree came.kept came.left before (stored start) came.rounds));
+              made = none_made (world_of tree) (key now) [];
+              passed = start_passed now;
+              off = notes_off b.max_branches tree sound_tree fair (key came.never) came.kept came.left before (stored start) came.rounds;
+              apart = λ c has. absurd (nothing c has);
+            }
 
-        begins : IsCovering path old 0 (record { states = []; led_by = [] }) (record { ways = []; passed = [] })
+        begins : IsCovering path old 0 (record { states = []; led_by = []; never = never }) (record { ways = []; passed = [] })
         begins = record {
+          never = never;
+          is_never = refl;
+          known = known;
           explained = record { counted = refl; each = λ k one at. absurd (cc at) };
           left = [];
           given = [];
@@ -169,7 +184,7 @@ module _ {V D S : Type 0} (b : Builder) (next : Meaning D S) (body : S) (takes :
           nodes = λ c has. absurd (nothing c has);
           rests = rests;
           since = λ before came.
-              subst (λ (l : List Node). Since before came [] [] (stored l) (record { states = []; led_by = [] }) (record { ways = []; passed = [] })) (sym same) (begins_since before came);
+              subst (λ (l : List Node). Since before came never [] [] (stored l) (record { states = []; led_by = []; never = never }) (record { ways = []; passed = [] })) (sym same) (begins_since before came);
         }
 
     -- the ways of a run were added
@@ -191,7 +206,7 @@ module _ {V D S : Type 0} (b : Builder) (next : Meaning D S) (body : S) (takes :
         ∙ ap (λ (n : ℕ). noting b.max_threads n body (at_rest (whole_search b.max_branches) (explores b) path.nodes) noted) f
 
     pub ran_so : (path : Route) (threads steps : ℕ) (noted : Noted D S) (ending : Ending D) (after : Route) (more : Noted D S) → threads ≡ b.max_threads → steps ≡ b.max_steps
-        → path ≡ at_rest (whole_search b.max_branches) (explores b) path.nodes → AreKeptAfter key noted
+        → path ≡ at_rest (whole_search b.max_branches) (explores b) path.nodes → AreKeptAfter (key noted.never) noted
         → (AreNoted next (noting threads steps body path noted) → EndsWith next (noting threads steps body path noted) ending after more) → EndsWith next (along path noted) ending after more
     ran_so path threads steps noted ending after more e f rests are h =
         let same = same_noting path threads steps noted e f rests in
@@ -202,33 +217,47 @@ module _ {V D S : Type 0} (b : Builder) (next : Meaning D S) (body : S) (takes :
     module _ (path : Route) (visitor : V) (count : ℕ) (noted : Noted D S) (ways : Tracks) (z : IsCovering path visitor count noted ways) where
       -- the path is one with which a check may go on
       module _ (before : List (List Choice × D)) (came : HaveComeTo b next body start before) where
+        -- what is known by this check, or by one before
+        abbrev either_knows : Bool
+        either_knows = came.never || z.never
+
+        known_by_either : IsKnown either_knows next body
+        known_by_either = known_either next body came.never z.never came.known z.known
+
+        -- the states are told apart by no more than they are in this check alone
+        coarser_by_either : (c : List Choice) → coarser either_knows (key noted.never c) ≡ key either_knows c
+        coarser_by_either = coarser_key noted.never either_knows (λ e. known_right came.never z.never (sym z.is_never ∙ e))
+
         pub comes_here : HaveComeTo b next body path.nodes (before ++ z.given)
-        comes_here = let w = z.since before came in record { kept = w.table; left = came.left ++ z.left; rounds = w.notes }
+        comes_here = let w = z.since before came in record { never = either_knows; known = known_by_either; kept = w.table; left = came.left ++ z.left; rounds = w.notes }
 
         pub rests_here : AreAtRest (stored path.nodes)
-        rests_here = let w = z.since before came in notes_well b.max_branches tree sound_tree fair key shut w.table (came.left ++ z.left) (before ++ z.given) (stored path.nodes) w.notes
+        rests_here = let w = z.since before came in notes_well b.max_branches tree sound_tree fair (key either_knows) shut w.table (came.left ++ z.left) (before ++ z.given) (stored path.nodes) w.notes
 
         -- a run was made, and left the path and what was noted so
         module _ (after : Route) (new : List (Key D S)) where
-          along_all : (ending : Result (Option D) FailureKind) → IsAlong b.max_branches (marking None) tree key (keys noted) (stored path.nodes) ending (trail after) new
-              → IsAlong b.max_branches (marking None) tree key (z.since before came).table (stored path.nodes) ending (trail after) ((z.since before came).table ++ new)
+          along_all : (ending : Result (Option D) FailureKind) → IsAlong b.max_branches (marking None) tree (key noted.never) (keys noted.never noted) (stored path.nodes) ending (trail after) new
+              → IsAlong b.max_branches (marking None) tree (key either_knows) (z.since before came).table (stored path.nodes) ending (trail after) ((z.since before came).table ++ map (coarser either_knows) new)
           along_all ending is =
-              with_table b.max_branches tree sound_tree fair key (keys noted) (z.since before came).table new (stored path.nodes) ending (trail after) (z.since before came).more is
+              with_table b.max_branches tree sound_tree fair (key either_knows) (keys either_knows noted) (z.since before came).table (map (coarser either_knows) new) (stored path.nodes) ending (trail after) (z.since before came).more
+              (subst (λ (l : List (Key D S)). IsAlong b.max_branches (marking None) tree (key either_knows) l (stored path.nodes) ending (trail after) (map (coarser either_knows) new))
+              (keys_coarser (key noted.never) (key either_knows) (coarser either_knows) coarser_by_either noted.led_by)
+              (along_coarser (key noted.never) (key either_knows) (coarser either_knows) coarser_by_either b.max_branches (marking None) tree (keys noted.never noted) new (stored path.nodes) ending (trail after) is))
 
           -- its path was passed to the end
-          pub chosen_all : (ending : Result (Option D) FailureKind) → IsAlong b.max_branches (marking None) tree key (keys noted) (stored path.nodes) ending (trail after) new → chosen after ≡ choices (stored after.nodes)
+          pub chosen_all : (ending : Result (Option D) FailureKind) → IsAlong b.max_branches (marking None) tree (key noted.never) (keys noted.never noted) (stored path.nodes) ending (trail after) new → chosen after ≡ choices (stored after.nodes)
           chosen_all ending is =
               let w = z.since before came in
               let end : trail after ≡ at_end (stored after.nodes) =
-              all_passed b.max_branches (marking None) tree sound_tree fair key w.table (w.table ++ new) (came.left ++ z.left) (before ++ z.given) (stored path.nodes) w.notes ending (trail after) (along_all ending is) in
+              all_passed b.max_branches (marking None) tree sound_tree fair (key either_knows) w.table (w.table ++ map (coarser either_knows) new) (came.left ++ z.left) (before ++ z.given) (stored path.nodes) w.notes ending (trail after) (along_all ending is) in
               ap choices (take_all (stored after.nodes) after.position (ap (λ (t : Trail). t.position) end))
 
           -- it failed
-          pub covering_fails : (kind : FailureKind) → IsAlong b.max_branches (marking None) tree key (keys noted) (stored path.nodes) (Err kind) (trail after) new → outcome b.max_branches tree (chosen after) ≡ Some (Err kind)
+          pub covering_fails : (kind : FailureKind) → IsAlong b.max_branches (marking None) tree (key noted.never) (keys noted.never noted) (stored path.nodes) (Err kind) (trail after) new → outcome b.max_branches tree (chosen after) ≡ Some (Err kind)
           covering_fails kind is =
               let w = z.since before came in
               ap (λ (c : List Choice). outcome b.max_branches tree c) (chosen_all (Err kind) is)
-              ∙ fails_there b.max_branches (marking None) tree sound_tree fair key w.table (w.table ++ new) (came.left ++ z.left) (before ++ z.given) (stored path.nodes) w.notes kind (trail after) (along_all (Err kind) is)
+              ∙ fails_there b.max_branches (marking None) tree sound_tree fair (key either_knows) w.table (w.table ++ map (coarser either_knows) new) (came.left ++ z.left) (before ++ z.given) (stored path.nodes) w.notes kind (trail after) (along_all (Err kind) is)
 
       -- it ended or was given up, and its ways were added
       module _ (after : Route) (more : Noted D S) (ending : Option D) (left_so : Leaves next (along path noted) (Ok ending) after more) (to : Option ℕ) (made : List Choice) (is_made : made ≡ chosen after)
@@ -243,22 +272,26 @@ module _ {V D S : Type 0} (b : Builder) (next : Meaning D S) (body : S) (takes :
         all_nodes c has = by (left_so.0.known c has)
           where
             by : Contains noted.led_by c ⊎ HasNode (stored after.nodes) c → (q : List Stored) × IsOneOf q (z.left ++ stored after.nodes ∷ []) × HasNode q c
-            by (inl there) = let n = z.nodes c there in (n.0, one_of_more (world_of tree) key (stored after.nodes) z.left n.0 n.1, n.2)
-            by (inr there) = (stored after.nodes, the_last (world_of tree) key (stored after.nodes) z.left, there)
+            by (inl there) = let n = z.nodes c there in (n.0, one_of_more (world_of tree) (key z.never) (stored after.nodes) z.left n.0 n.1, n.2)
+            by (inr there) = (stored after.nodes, the_last (world_of tree) (key z.never) (stored after.nodes) z.left, there)
 
         module _ (before : List (List Choice × D)) (came : HaveComeTo b next body start before)
-            (comes : ComesTo (world_of tree) key (z.left ++ stored after.nodes ∷ []) (z.given ++ with_run (chosen after) ending []) more.led_by (stored after.nodes) to) where
-          abbrev w : Since before came z.left z.given (stored path.nodes) noted ways
+            (comes : ComesTo (world_of tree) (key (either_knows before came)) (z.left ++ stored after.nodes ∷ []) (z.given ++ with_run (chosen after) ending []) more.led_by (stored after.nodes) to) where
+          abbrev w : Since before came z.never z.left z.given (stored path.nodes) noted ways
           w = z.since before came
 
-          abbrev Along : List (Key D S) → List (Key D S) → Type 0
-          Along table new = IsAlong b.max_branches (marking None) tree key table (stored path.nodes) (Ok ending) (trail after) new
+          -- what the run noted
+          abbrev new_keys : List (Key D S)
+          new_keys = map (coarser (either_knows before came)) (keys noted.never more)
 
-          along_so : Along w.table (w.table ++ keys more)
-          along_so = along_all before came after (keys more) (Ok ending) left_so.1
+          abbrev Along : List (Key D S) → List (Key D S) → Type 0
+          Along table new = IsAlong b.max_branches (marking None) tree (key (either_knows before came)) table (stored path.nodes) (Ok ending) (trail after) new
+
+          along_so : Along w.table (w.table ++ new_keys)
+          along_so = along_all before came after (keys noted.never more) (Ok ending) left_so.1
 
           chosen_so : chosen after ≡ choices (stored after.nodes)
-          chosen_so = chosen_all before came after (keys more) (Ok ending) left_so.1
+          chosen_so = chosen_all before came after (keys noted.never more) (Ok ending) left_so.1
 
           all_chosen : made ≡ choices (stored after.nodes)
           all_chosen = is_made ∙ chosen_so
@@ -269,17 +302,17 @@ module _ {V D S : Type 0} (b : Builder) (next : Meaning D S) (body : S) (takes :
           givens_so : (before ++ z.given) ++ with_run (choices (stored after.nodes)) ending [] ≡ before ++ now_given
           givens_so = given_on before z.given (choices (stored after.nodes)) (chosen after) ending chosen_so
 
-          all_made : AreMade (world_of tree) key now_left now_given more.led_by grown.ways
+          all_made : AreMade (world_of tree) (key (either_knows before came)) now_left now_given more.led_by grown.ways
           all_made =
-              made_more (world_of tree) key z.left z.given (with_run (chosen after) ending []) (stored after.nodes) noted.led_by more.led_by left_so.0.grows to comes ways.ways grown.ways
+              made_more (world_of tree) (key (either_knows before came)) z.left z.given (with_run (chosen after) ending []) (stored after.nodes) noted.led_by more.led_by left_so.0.grows to comes ways.ways grown.ways
               (subst (λ (l : List Choice). AddsRun more.led_by l to ways.ways grown.ways) all_chosen added.adds) w.made
 
           -- what the path says of the run
           left_by : IsLeftBy (stored path.nodes) (stored after.nodes)
-          left_by = left_there b.max_branches (marking None) tree sound_tree fair key w.table (w.table ++ keys more) (came.left ++ z.left) (before ++ z.given) (stored path.nodes) w.notes ending (trail after) along_so
+          left_by = left_there b.max_branches (marking None) tree sound_tree fair (key (either_knows before came)) w.table (w.table ++ new_keys) (came.left ++ z.left) (before ++ z.given) (stored path.nodes) w.notes ending (trail after) along_so
 
           rests_so : (c : List Choice) (n : Stored) → node_at (stored after.nodes) c ≡ Some n → IsAtRest n
-          rests_so = rests_there b.max_branches (marking None) tree sound_tree fair key w.table (w.table ++ keys more) (came.left ++ z.left) (before ++ z.given) (stored path.nodes) w.notes ending (trail after) along_so
+          rests_so = rests_there b.max_branches (marking None) tree sound_tree fair (key (either_knows before came)) w.table (w.table ++ new_keys) (came.left ++ z.left) (before ++ z.given) (stored path.nodes) w.notes ending (trail after) along_so
 
           as_many : length noted.states ≡ length noted.led_by
           as_many = sym z.explained.counted
@@ -288,11 +321,11 @@ module _ {V D S : Type 0} (b : Builder) (next : Meaning D S) (body : S) (takes :
           whole =
               subst (λ (n : ℕ). IsReady more.led_by (choices (stored after.nodes)) n ways → IsWhole more.led_by (choices (stored after.nodes)) n to ways grown) as_many
               (subst (λ (l : List Choice). IsReady more.led_by l (length noted.states) ways → IsWhole more.led_by l (length noted.states) to ways grown) all_chosen added.whole)
-              (is_ready (world_of tree) key (stored path.nodes) (stored after.nodes) z.left z.given (with_run (chosen after) ending []) noted.led_by more.led_by ways grown w.passed left_by rests_so left_so.0.grows left_so.0.later.there left_so.0.later.ordered)
+              (is_ready (world_of tree) (key (either_knows before came)) (stored path.nodes) (stored after.nodes) z.left z.given (with_run (chosen after) ending []) noted.led_by more.led_by ways grown w.passed left_by rests_so left_so.0.grows left_so.0.later.there left_so.0.later.ordered)
 
-          all_leads : (q : List Stored) → IsOneOf q now_left → LeadsAll (world_of tree) key now_left now_given more.led_by grown.ways q
+          all_leads : (q : List Stored) → IsOneOf q now_left → LeadsAll (world_of tree) (key (either_knows before came)) now_left now_given more.led_by grown.ways q
           all_leads =
-              leads_all (world_of tree) key (stored path.nodes) (stored after.nodes) z.left z.given (with_run (chosen after) ending []) noted.led_by more.led_by ways grown w.passed left_by rests_so left_so.0.grows left_so.0.later.there left_so.0.later.ordered to comes whole
+              leads_all (world_of tree) (key (either_knows before came)) (stored path.nodes) (stored after.nodes) z.left z.given (with_run (chosen after) ending []) noted.led_by more.led_by ways grown w.passed left_by rests_so left_so.0.grows left_so.0.later.there left_so.0.later.ordered to comes whole
 
           -- no earlier run comes to where a state was noted
           all_apart : AreApart came.left more
@@ -311,16 +344,18 @@ module _ {V D S : Type 0} (b : Builder) (next : Meaning D S) (body : S) (takes :
                   off_new came.left (stored path.nodes) (stored after.nodes) left_by rests_so w.off c n.0 n.1 x i begins
 
           -- a step goes on
-          since_on : (later : List Stored) → step (stored after.nodes) ≡ Some later → Since before came now_left now_given later more grown
+          since_on : (later : List Stored) → step (stored after.nodes) ≡ Some later → Since before came z.never now_left now_given later more grown
           since_on later steps = record {
-            table = w.table ++ keys more;
-            more = λ s h. has_behind w.table (keys more) s h;
-            notes = subst (λ (l : List (List Stored)). Notes b.max_branches (marking None) tree key (w.table ++ keys more) l (before ++ now_given) later) lefts_so
-                (subst (λ (l : List (List Choice × D)). Notes b.max_branches (marking None) tree key (w.table ++ keys more) ((came.left ++ z.left) ++ stored after.nodes ∷ []) l later) givens_so
-                (notes_more w.table (w.table ++ keys more) (came.left ++ z.left) (before ++ z.given) (stored path.nodes) later ending (trail after) w.notes along_so steps));
+            table = w.table ++ new_keys;
+            more = λ s h.
+                has_behind w.table new_keys s
+                (subst (λ (l : List (Key D S)). Contains l s) (sym (keys_coarser (key noted.never) (key (either_knows before came)) (coarser (either_knows before came)) (coarser_by_either before came) more.led_by)) h);
+            notes = subst (λ (l : List (List Stored)). Notes b.max_branches (marking None) tree (key (either_knows before came)) (w.table ++ new_keys) l (before ++ now_given) later) lefts_so
+                (subst (λ (l : List (List Choice × D)). Notes b.max_branches (marking None) tree (key (either_knows before came)) (w.table ++ new_keys) ((came.left ++ z.left) ++ stored after.nodes ∷ []) l later) givens_so
+                (notes_more w.table (w.table ++ new_keys) (came.left ++ z.left) (before ++ z.given) (stored path.nodes) later ending (trail after) w.notes along_so steps));
             made = all_made;
             passed =
-                passed_on (world_of tree) key (stored path.nodes) (stored after.nodes) z.left z.given (with_run (chosen after) ending []) noted.led_by more.led_by ways grown w.passed left_by rests_so left_so.0.grows left_so.0.later.there left_so.0.later.ordered to comes whole later steps;
+                passed_on (world_of tree) (key (either_knows before came)) (stored path.nodes) (stored after.nodes) z.left z.given (with_run (chosen after) ending []) noted.led_by more.led_by ways grown w.passed left_by rests_so left_so.0.grows left_so.0.later.there left_so.0.later.ordered to comes whole later steps;
             off = off_still came.left (stored path.nodes) (stored after.nodes) later left_by steps w.off;
             apart = all_apart;
           }
@@ -331,24 +366,24 @@ module _ {V D S : Type 0} (b : Builder) (next : Meaning D S) (body : S) (takes :
             covering_ends =
                 subst (IsCovered b next body) givens_so
                 (λ limits steps_too are.
-                covers_all next (explores b) b.max_threads b.max_steps b.max_branches (marking None) fair body w.table (w.table ++ keys more) (came.left ++ z.left) (before ++ z.given) (stored path.nodes) ending (trail after) w.notes along_so none limits steps_too are)
+                covers_all (either_knows before came) next (explores b) b.max_threads b.max_steps b.max_branches (marking None) fair body (known_by_either before came) w.table (w.table ++ new_keys) (came.left ++ z.left) (before ++ z.given) (stored path.nodes) ending (trail after) w.notes along_so none limits steps_too are)
 
             lost_called : (lost : ℕ) (c : List Choice) → slice_get more.led_by lost ≡ Some c → IsCalled (world_of tree) c
             lost_called lost c at =
                 let n = all_nodes c (has_at more.led_by lost c at) in
                 let among : IsOneOf n.0 ((came.left ++ z.left) ++ stored after.nodes ∷ []) = subst (IsOneOf n.0) (sym lefts_so) (one_behind n.0 came.left now_left n.1) in
-                called_there next (explores b) b.max_threads b.max_steps b.max_branches (marking None) fair body w.table (w.table ++ keys more) (came.left ++ z.left) (before ++ z.given) (stored path.nodes) ending (trail after) w.notes along_so none n.0 c n.2.node among n.2.at
+                called_there (either_knows before came) next (explores b) b.max_threads b.max_steps b.max_branches (marking None) fair body (known_by_either before came) w.table (w.table ++ new_keys) (came.left ++ z.left) (before ++ z.given) (stored path.nodes) ending (trail after) w.notes along_so none n.0 c n.2.node among n.2.at
 
             -- no run goes on from there to an end
             lost_never : (lost : ℕ) (c : List Choice) → slice_get more.led_by lost ≡ Some c → (Leads grown.ways (length more.led_by) None lost → ⊥) → NeverEnds b next body (before ++ now_given) c
             lost_never lost c at none_reaches = record {
               called = lost_called lost c at;
               never = λ steps_too on value called came_so.
-                  never_ends_there next (explores b) b.max_threads b.max_steps b.max_branches (marking None) fair body w.table (w.table ++ keys more) (came.left ++ z.left) (before ++ z.given) (stored path.nodes) ending (trail after) w.notes along_so none
-                  (IsLost (world_of tree) key now_left now_given more.led_by grown.ways all_nodes all_leads)
-                  (subst (λ (l : List (List Stored)). AreLost key l (IsLost (world_of tree) key now_left now_given more.led_by grown.ways all_nodes all_leads)) (sym lefts_so)
-                  (lost_among key came.left now_left (IsLost (world_of tree) key now_left now_given more.led_by grown.ways all_nodes all_leads)
-                  (are_lost (world_of tree) key now_left now_given more.led_by grown.ways all_nodes all_leads) (λ d is. all_apart d (has_at more.led_by is.0 d is.1))))
+                  never_ends_there (either_knows before came) next (explores b) b.max_threads b.max_steps b.max_branches (marking None) fair body (known_by_either before came) w.table (w.table ++ new_keys) (came.left ++ z.left) (before ++ z.given) (stored path.nodes) ending (trail after) w.notes along_so none
+                  (IsLost (world_of tree) (key (either_knows before came)) now_left now_given more.led_by grown.ways all_nodes all_leads)
+                  (subst (λ (l : List (List Stored)). AreLost (key (either_knows before came)) l (IsLost (world_of tree) (key (either_knows before came)) now_left now_given more.led_by grown.ways all_nodes all_leads)) (sym lefts_so)
+                  (lost_among (key (either_knows before came)) came.left now_left (IsLost (world_of tree) (key (either_knows before came)) now_left now_given more.led_by grown.ways all_nodes all_leads)
+                  (are_lost (world_of tree) (key (either_knows before came)) now_left now_given more.led_by grown.ways all_nodes all_leads) (λ d is. all_apart d (has_at more.led_by is.0 d is.1))))
                   steps_too c on value (lost, at, none_reaches) called came_so;
             }
 
@@ -360,13 +395,13 @@ module _ {V D S : Type 0} (b : Builder) (next : Meaning D S) (body : S) (takes :
             claims_so holds (Failed count met states failure list) now wrong = absurd wrong
 
         -- from the beginning its runs can end, where all states lead to an end
-        module _ (e : start ≡ []) (comes : ComesTo (world_of tree) key (z.left ++ stored after.nodes ∷ []) (z.given ++ with_run (chosen after) ending []) more.led_by (stored after.nodes) to) (none : step (stored after.nodes) ≡ None) where
+        module _ (e : start ≡ []) (comes : ComesTo (world_of tree) (key (either_knows [] (begun e))) (z.left ++ stored after.nodes ∷ []) (z.given ++ with_run (chosen after) ending []) more.led_by (stored after.nodes) to) (none : step (stored after.nodes) ≡ None) where
           all_can_end : ((n : ℕ) → n < length more.led_by → Leads grown.ways (length more.led_by) None n) → AllCanEnd b next body now_given
           unfolding begun
           all_can_end reach limits are =
               let w = z.since [] (begun e) in
-              ends_all next (explores b) b.max_threads b.max_steps b.max_branches (marking None) fair body w.table (w.table ++ keys more) z.left z.given (stored path.nodes) ending (trail after) w.notes (along_so [] (begun e) comes) none more.led_by grown.ways
-              (subst (λ (l : List Choice). AreMade (world_of tree) key now_left (z.given ++ with_run l ending []) more.led_by grown.ways) (chosen_so [] (begun e) comes) (all_made [] (begun e) comes)) reach limits are
+              ends_all (either_knows [] (begun e)) next (explores b) b.max_threads b.max_steps b.max_branches (marking None) fair body (known_by_either [] (begun e)) w.table (w.table ++ new_keys [] (begun e) comes) z.left z.given (stored path.nodes) ending (trail after) w.notes (along_so [] (begun e) comes) none more.led_by grown.ways
+              (subst (λ (l : List Choice). AreMade (world_of tree) (key (either_knows [] (begun e))) now_left (z.given ++ with_run l ending []) more.led_by grown.ways) (chosen_so [] (begun e) comes) (all_made [] (begun e) comes)) reach limits are
 
           fresh_so : (answered : Duration → Type 0) (holds : Option (List ℕ) → Type 0) (covered : Covered) (now : ℕ) → IsToldBy grown.ways more.led_by now covered → Claims b next body now_given answered covered
           fresh_so answered holds (Complete count met states) now (same, reach) = (covering_ends [] (begun e) comes none, all_can_end reach)
@@ -452,10 +487,10 @@ module _ {V D S : Type 0} (b : Builder) (next : Meaning D S) (body : S) (takes :
       pub covering : IsCovering start path visitor count noted ways
       pub behind : (before : List (List Choice × D)) → HaveComeTo b next body start before → IsBehind start before covering.given holds most
 
-    pub checking_starts : (holds : Option (List ℕ) → Type 0) (path : Route) (noted : Noted D S) (ways : Tracks) → IsCoverBegun b gives holds path → noted ≡ record { states = []; led_by = [] } → ways ≡ record { ways = []; passed = [] }
+    pub checking_starts : (holds : Option (List ℕ) → Type 0) (path : Route) (noted : Noted D S) (ways : Tracks) → IsCoverBegun b gives holds path → (never : Bool) → noted ≡ record { states = []; led_by = []; never = never } → IsKnown never next body → ways ≡ record { ways = []; passed = [] }
         → IsChecking holds path old 0 0 noted ways
-    checking_starts holds path noted ways z none no_ways =
-        let covering = covering_starts path.nodes path noted ways z.rests refl none no_ways in
+    checking_starts holds path noted ways z never none known no_ways =
+        let covering = covering_starts path.nodes path noted never ways z.rests refl none known no_ways in
         record {
           text = z.text;
           gave = z.gave;
@@ -602,7 +637,7 @@ module _ {V D S : Type 0} (b : Builder) (next : Meaning D S) (body : S) (takes :
 
           module _ (ending : Option D) (left_so : Leaves next (along z.start path noted) (Ok ending) after more) (given_now : Given takes old (z.covering.given ++ with_run (chosen after) ending []) new)
               (counted_now : length (z.covering.given ++ with_run (chosen after) ending []) ≡ now)
-              (comes_now : (before : List (List Choice × D)) → HaveComeTo b next body z.start before → ComesTo (world_of tree) key (z.covering.left ++ stored after.nodes ∷ []) (z.covering.given ++ with_run (chosen after) ending []) more.led_by (stored after.nodes) to) where
+              (comes_now : (before : List (List Choice × D)) (earlier : HaveComeTo b next body z.start before) → ComesTo (world_of tree) (key (earlier.never || z.covering.never)) (z.covering.left ++ stored after.nodes ∷ []) (z.covering.given ++ with_run (chosen after) ending []) more.led_by (stored after.nodes) to) where
             behind_now : (before : List (List Choice × D)) → HaveComeTo b next body z.start before → IsBehind z.start before (z.covering.given ++ with_run (chosen after) ending []) holds (most + 1)
             behind_now before earlier = falls_behind z.start before z.covering.given (with_run (chosen after) ending []) holds most (one_at_most (chosen after) ending) (z.behind before earlier)
 
@@ -614,7 +649,10 @@ module _ {V D S : Type 0} (b : Builder) (next : Meaning D S) (body : S) (takes :
                 start = z.start;
                 reads = z.reads;
                 covering = record {
-                  explained = left_so.0.explained;
+                  never = z.covering.never;
+                  is_never = left_so.0.never ∙ z.covering.is_never;
+                  known = z.covering.known;
+                  explained = subst (λ (x : Bool). AreKeptAfter (key x) more) (sym left_so.0.never) left_so.0.explained;
                   left = z.covering.left ++ stored after.nodes ∷ [];
                   given = z.covering.given ++ with_run (chosen after) ending [];
                   was_given = given_now;
@@ -656,13 +694,14 @@ module _ {V D S : Type 0} (b : Builder) (next : Meaning D S) (body : S) (takes :
                 (λ before earlier.
                 let left : Leaves next (along z.start path noted) (Ok (Some value)) after more = subst (λ (x : Ending D). EndsWith next (along z.start path noted) x after more) is ran in
                 let w = z.covering.since before earlier in
-                let all : chosen after ≡ choices (stored after.nodes) = chosen_all z.start path visitor count noted ways z.covering before earlier after (keys more) (Ok (Some value)) left.1 in
+                let all : chosen after ≡ choices (stored after.nodes) = chosen_all z.start path visitor count noted ways z.covering before earlier after (keys noted.never more) (Ok (Some value)) left.1 in
+                let known : Bool = earlier.never || z.covering.never in
                 subst
-                (λ (t : Option ℕ). ComesTo (world_of tree) key (z.covering.left ++ stored after.nodes ∷ []) (z.covering.given ++ with_run (chosen after) (Some value) []) more.led_by (stored after.nodes) t)
+                (λ (t : Option ℕ). ComesTo (world_of tree) (key known) (z.covering.left ++ stored after.nodes ∷ []) (z.covering.given ++ with_run (chosen after) (Some value) []) more.led_by (stored after.nodes) t)
                 (sym ended)
-                (ended_there b.max_branches (marking None) tree sound_tree fair key w.table (w.table ++ keys more) (earlier.left ++ z.covering.left) (before ++ z.covering.given) (stored path.nodes) w.notes value (trail after)
-                (along_all z.start path visitor count noted ways z.covering before earlier after (keys more) (Ok (Some value)) left.1) (z.covering.left ++ stored after.nodes ∷ []) (z.covering.given ++ with_run (chosen after) (Some value) [])
-                (subst (λ (c : List Choice). IsGiven c value (z.covering.given ++ (chosen after, value) ∷ [])) all (given_last (world_of tree) key (chosen after) value z.covering.given))))
+                (ended_there b.max_branches (marking None) tree sound_tree fair (key known) w.table (w.table ++ map (coarser known) (keys noted.never more)) (earlier.left ++ z.covering.left) (before ++ z.covering.given) (stored path.nodes) w.notes value (trail after)
+                (along_all z.start path visitor count noted ways z.covering before earlier after (keys noted.never more) (Ok (Some value)) left.1) (z.covering.left ++ stored after.nodes ∷ []) (z.covering.given ++ with_run (chosen after) (Some value) [])
+                (subst (λ (c : List Choice). IsGiven c value (z.covering.given ++ (chosen after, value) ∷ [])) all (given_last (world_of tree) (key known) (chosen after) value z.covering.given))))
 
           -- it was given up
           module _ (number : ℕ) (is : came ≡ end.Met number) (same : new ≡ visitor) (none : now ≡ count) (given_up : to ≡ Some number) where
@@ -673,7 +712,9 @@ module _ {V D S : Type 0} (b : Builder) (next : Meaning D S) (body : S) (takes :
                 (subst (λ (v : V). Given takes old (z.covering.given ++ []) v) (sym same) (subst (λ (l : List (List Choice × D)). Given takes old l visitor) (sym (append-nil z.covering.given)) z.covering.was_given))
                 (ap length (append-nil z.covering.given) ∙ z.covering.counted ∙ sym none)
                 (λ before earlier.
-                subst (λ (t : Option ℕ). ComesTo (world_of tree) key (z.covering.left ++ stored after.nodes ∷ []) (z.covering.given ++ []) more.led_by (stored after.nodes) t) (sym given_up) left_off.1)
+                let known : Bool = earlier.never || z.covering.never in
+                subst (λ (t : Option ℕ). ComesTo (world_of tree) (key known) (z.covering.left ++ stored after.nodes ∷ []) (z.covering.given ++ []) more.led_by (stored after.nodes) t) (sym given_up)
+                (ends_coarser (key noted.never) (key known) (coarser known) (coarser_by_either z.start path visitor count noted ways z.covering before earlier) more.led_by (stored after.nodes) number left_off.1))
 
 -- how one begins
 pub cover_begun : (b : Builder) (search : Search) (gives holds : Option (List ℕ) → Type 0) (path : Route) → settings search ≡ whole_search b.max_branches → search.explores ≡ explores b → (text : Option (List ℕ)) → gives text → holds text
@@ -704,9 +745,11 @@ no_cover_beginning b gives no_run (Err x) e none not_begun is = by (subst (IsNoB
 -- where a check was stopped another one goes on
 pub goes_on_law : {D S : Type 0} → GoesOnLaw D S
 goes_on_law b next body text last path given one other came = record {
+  never = came.never;
+  known = came.known;
   kept = came.kept;
   left = came.left;
-  rounds = subst (Notes b.max_branches (marking None) (runs next (explores b) b.max_threads b.max_steps body) (state_after seen_at next (explores b) b.max_threads b.max_steps body) came.kept came.left given)
+  rounds = subst (Notes b.max_branches (marking None) (runs next (explores b) b.max_threads b.max_steps body) (state_after (seen_by came.never) next (explores b) b.max_threads b.max_steps body) came.kept came.left given)
       (same_stored (whole_search b.max_branches) (explores b) text last path one other) came.rounds;
 }
 

@@ -137,7 +137,7 @@ module _ {D S : Type 0} (next : Meaning D S) (run : Noting D S) where
 
   module _ (bodies : List S) (old : Progress D) (path : Route) (noted : Noted D S) (h : IsAtBranch next run bodies old path noted) where
     -- the state was noted
-    pub met : is_on path.exploring ≡ true → is_used_up (trail path) ≡ true → (number : ℕ) (views : Views) → IsInOrder old.state.scene.views views → slice_get noted.states number ≡ Some (state_in old bodies views) → Meets next run number path noted
+    pub met : is_on path.exploring ≡ true → is_used_up (trail path) ≡ true → (number : ℕ) (views : Views) → IsInOrder old.state.scene.views views → slice_get noted.states number ≡ Some (state_in noted.never old bodies views) → Meets next run number path noted
     met explores used number views order has =
         let all = not_less _ _ (both _ _ used) in
         let on = h.shown.exploring ∙ exploring_so path.exploring explores in (
@@ -152,7 +152,7 @@ module _ {D S : Type 0} (next : Meaning D S) (run : Noting D S) where
           (way.fails_on run.room (marking None) next run.explores run.max_threads run.max_steps run.body run.path run.old (trail path) (suc h.course.world.steps_left) bodies h.course h.at kind (trail after) (by_whole path (schedule further_branches h.course) (Err kind, trail after) h.whole e))
 
       -- it comes to a turn, once the state was noted or wasn't
-      pub schedule_turns : (turn : Turn D) (more : Noted D S) (views : Views) → IsInOrder old.state.scene.views views → ((is_on path.exploring ≡ true) × (is_used_up (trail path) ≡ true) × NotesAs (state_in old bodies views) (chosen path) noted more) ⊎ (more ≡ noted) → new.state.steps_left ≡ old.state.steps_left
+      pub schedule_turns : (turn : Turn D) (more : Noted D S) (views : Views) → IsInOrder old.state.scene.views views → ((is_on path.exploring ≡ true) × (is_used_up (trail path) ≡ true) × NotesAs (state_in noted.never old bodies views) (chosen path) noted more) ⊎ (more ≡ noted) → new.state.steps_left ≡ old.state.steps_left
           → (v : Course D) → ShowsCourse v new after → drives (schedule further_branches h.course) path ≡ (Ok (turn, v), trail after) → ComesTo next run (Ok turn) bodies new after more
       schedule_turns turn more views order notes steps v shown e =
           let drawn : drive (whole_search run.room) (marking None) (schedule further_branches h.course) (trail path) ≡ (Ok (turn, v), trail after) =
@@ -164,7 +164,7 @@ module _ {D S : Type 0} (next : Meaning D S) (run : Noting D S) where
           (subst (λ (n : ℕ). under.TurnIs run.room (marking None) next run.explores run.max_threads run.max_steps run.body run.path run.old (trail after) n bodies v turn) counted
           (way.turned_on run.room (marking None) next run.explores run.max_threads run.max_steps run.body run.path run.old (trail path) (suc h.course.world.steps_left) bodies h.course h.at turn v (trail after) drawn))
         where
-          tabled : (turn : Turn D) (more : Noted D S) → ((is_on path.exploring ≡ true) × (is_used_up (trail path) ≡ true) × NotesAs (state_in old bodies views) (chosen path) noted more) ⊎ (more ≡ noted) → (v : Course D)
+          tabled : (turn : Turn D) (more : Noted D S) → ((is_on path.exploring ≡ true) × (is_used_up (trail path) ≡ true) × NotesAs (state_in noted.never old bodies views) (chosen path) noted more) ⊎ (more ≡ noted) → (v : Course D)
               → drive (whole_search run.room) (marking None) (schedule further_branches h.course) (trail path) ≡ (Ok (turn, v), trail after) → IsTabled next run more after
           tabled turn more (inl (explores, used, notes)) v drawn =
               way.tables_noted run.room (marking None) next run.explores run.max_threads run.max_steps run.body run.path run.old (trail path) (suc h.course.world.steps_left) bodies h.course h.at noted more old path views (turn, v) (trail after) h.shown order (h.shown.exploring ∙ exploring_so path.exploring explores) (not_less _ _ (both _ _ used)) notes drawn h.tables

@@ -59,32 +59,33 @@ module _ {D : Type 0} (words : List (Word D)) where
   told_there (p ∷ places) (w ∷ told) z = ap₂ (λ (x : Word D) (l : List (Word D)). x ∷ l) (get_or_from_slice_get words p w [] z.0) (told_there places told z.1)
 
   module _ (run : Progress D) (places : List ℕ) (told : List (Word D)) (at : AreAt words places told) where
-    state_told : (views : Views) → told_in words (state_in run places views) ≡ state_in run told views
-    state_told views = ap (λ (l : List (Word D)). state_in run l views) (told_there places told at)
+    state_told : (never : Bool) (views : Views) → told_in words (state_in never run places views) ≡ state_in never run told views
+    state_told never views = ap (λ (l : List (Word D)). state_in never run l views) (told_there places told at)
 
-    notes_told : (views : Views) (made : List Choice) (old new : Noted D ℕ) → NotesAs (state_in run places views) made old new
-        → NotesAs (state_in run told views) made (all_told words old) (all_told words new)
-    notes_told views made old new (inl (states, led)) =
+    notes_told : (never : Bool) (views : Views) (made : List Choice) (old new : Noted D ℕ) → NotesAs (state_in never run places views) made old new
+        → NotesAs (state_in never run told views) made (all_told words old) (all_told words new)
+    notes_told never views made old new (inl (states, led, same)) =
         inl (
-          ap (map (told_in words)) states ∙ map-append (told_in words) old.states (state_in run places views ∷ [])
-              ∙ ap (λ (s : Kept D (Word D)). map (told_in words) old.states ++ s ∷ []) (state_told views),
+          ap (map (told_in words)) states ∙ map-append (told_in words) old.states (state_in never run places views ∷ [])
+              ∙ ap (λ (s : Kept D (Word D)). map (told_in words) old.states ++ s ∷ []) (state_told never views),
           led,
+          same,
         )
-    notes_told views made old new (inr same) = inr (ap (all_told words) same)
+    notes_told never views made old new (inr same) = inr (ap (all_told words) same)
 
-    looks_told : (views : Views) (path : Route) (old new : Noted D ℕ) (found : Found) → LooksUp (state_in run places views) path old found new
-        → LooksUp (state_in run told views) path (all_told words old) found (all_told words new)
-    looks_told views path old new (Known number) (explores, used, at_number, same) = (
+    looks_told : (never : Bool) (views : Views) (path : Route) (old new : Noted D ℕ) (found : Found) → LooksUp (state_in never run places views) path old found new
+        → LooksUp (state_in never run told views) path (all_told words old) found (all_told words new)
+    looks_told never views path old new (Known number) (explores, used, at_number, same) = (
       explores,
       used,
-      slice_get-map (told_in words) old.states number ∙ ap (option_map (told_in words)) at_number ∙ ap Some (state_told views),
+      slice_get-map (told_in words) old.states number ∙ ap (option_map (told_in words)) at_number ∙ ap Some (state_told never views),
       ap (all_told words) same,
     )
-    looks_told views path old new New (inl (explores, used, notes)) = inl (explores, used, notes_told views (chosen path) old new notes)
-    looks_told views path old new New (inr same) = inr (ap (all_told words) same)
+    looks_told never views path old new New (inl (explores, used, notes)) = inl (explores, used, notes_told never views (chosen path) old new notes)
+    looks_told never views path old new New (inr same) = inr (ap (all_told words) same)
 
     looks_so : (path : Route) (old new : Noted D ℕ) (found : Found) → LooksUpRun run places path old found new → LooksUpRun run told path (all_told words old) found (all_told words new)
-    looks_so path old new found l = record { views = l.views; order = l.order; looks = looks_told l.views path old new found l.looks }
+    looks_so path old new found l = record { views = l.views; order = l.order; looks = looks_told old.never l.views path old new found l.looks }
 
   -- what comes of a branch point, where threads are at these places, and were told that
   pub passes_told : (places : List ℕ) (told : List (Word D)) → AreAt words places told → (old new : ExecutionState D) (path after : Route) (noted more : Noted D ℕ) (result : Result (Turn D) Halt)

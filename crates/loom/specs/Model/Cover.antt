@@ -119,7 +119,7 @@ LooksUp state path old New new = ((is_on path.exploring ≡ true) × (is_used_up
 pub record LooksUpRun {D S : Type 0} (run : Progress D) (bodies : List S) (path : Route) (old : Noted D S) (found : Found) (new : Noted D S) : Type 0 where
   pub views : Views
   pub order : IsInOrder run.state.scene.views views
-  pub looks : LooksUp (state_in run bodies views) path old found new
+  pub looks : LooksUp (state_in old.never run bodies views) path old found new
 
 -- A run stands at a branch point, with these bodies. Its state was noted before, and it is given up; or it is noted or isn't, and the
 -- schedule is made.

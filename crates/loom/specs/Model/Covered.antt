@@ -17,7 +17,7 @@ use Rattle.loom_engine.specs.Walk.Path.{Stored}
 use Rattle.loom_engine.specs.Covering.Between.{IsFirstLost}
 use Rattle.loom_engine.specs.Covering.Covered.{Covers}
 use Rattle.loom_engine.specs.Covering.Kept.{Key}
-use Rattle.loom_engine.specs.Covering.Sight.{seen_at}
+use Rattle.loom_engine.specs.Covering.Sight.{IsKnown, seen_by}
 use Rattle.loom_engine.specs.Covering.States.{AreLimits, state_after}
 use Rattle.loom_engine.specs.Covering.Table.{Notes}
 use Rattle.loom_engine.specs.Covering.Ways.{CanEnd}
@@ -82,16 +82,19 @@ pub record FailsAlong (b : Builder) (path : Route) (kind : FailureKind) (failure
 -- ---- checks one after another
 
 module _ {D S : Type 0} (b : Builder) (next : Meaning D S) (body : S) where
-  -- the state of a run after these choices, as it is kept
-  abbrev pub state_so : List Choice → Key D S
-  state_so = state_after seen_at next (explores b) b.max_threads b.max_steps body
+  -- the state of a run after these choices, as it is kept of a body that is known never to switch whether the search explores, or of any
+  abbrev pub state_so : Bool → List Choice → Key D S
+  state_so never = state_after (seen_by never) next (explores b) b.max_threads b.max_steps body
 
   -- Covering checks of the body have come to this path, the first from the beginning, and each that followed from where the one before it was
-  -- stopped: these states were kept, these paths were left by their runs, and the visitor was given these runs.
+  -- stopped: these states were kept, of a body of which that is known or isn't, these paths were left by their runs, and the visitor was
+  -- given these runs.
   pub record HaveComeTo (path : List Node) (given : List (List Choice × D)) : Type 0 where
+    pub never : Bool
+    pub known : IsKnown never next body
     pub kept : List (Key D S)
     pub left : List (List Stored)
-    pub rounds : Notes b.max_branches (marking None) (runs next (explores b) b.max_threads b.max_steps body) state_so kept left given (stored path)
+    pub rounds : Notes b.max_branches (marking None) (runs next (explores b) b.max_threads b.max_steps body) (state_so never) kept left given (stored path)
 
 -- What one says that began with a path, to which such checks had come that gave the first runs: of these and of its own together.
 module _ {D S : Type 0} (b : Builder) (next : Meaning D S) (body : S) (holds : Option (List ℕ) → Type 0) (before given : List (List Choice × D)) where

@@ -231,13 +231,14 @@ module _ {D : Type 0} (words : List (Word D)) where
     views = kept.views;
     lazies = kept.lazies;
     max_threads = kept.max_threads;
+    yields = kept.yields;
     ordered = kept.ordered;
     bodies = map told_at kept.bodies;
   }
 
   -- and so each that was noted
   abbrev pub all_told : Noted D ℕ → Noted D (Word D)
-  all_told noted = record { states = map told_in noted.states; led_by = noted.led_by }
+  all_told noted = record { states = map told_in noted.states; led_by = noted.led_by; never = noted.never }
 
 -- ---- runs of the closure that are recorded
 

@@ -6,6 +6,7 @@ pub(crate) mod saving;
 pub mod text;
 
 ghost use Rattle.std.specs.Prelude.{◌≡◌, ◌≤◌, ◌<◌, [], Err, IfOk, IfErr, OnErr};
+ghost use Rattle.loom_engine.specs.Covering.Sight.{IsKnown};
 ghost use Rattle.loom.specs.Model.CoverStores.{IsNoReport, StillHolds};
 ghost use Rattle.loom.specs.Model.Covered.{Covering, CoveringAlone, FailsAlong, IsToldBy};
 ghost use Rattle.loom.specs.Model.Refusals.{CountsFaults};
@@ -167,7 +168,7 @@ impl Builder {
     {
         self.test()?;
         let mut room = Room::new(alloc, self.limits())?;
-        let mut states = States::new(alloc, most_states)?;
+        let mut states = States::new(alloc, most_states, body.never_switches())?;
         let covered = self.cover_rounds::<B, Choices, R, C, S, L>(
             alloc,
             body,
@@ -207,7 +208,8 @@ impl Builder {
         requires few { self.now.max_threads ≤ 5 }
         requires branches { self.now.max_branches ≤ 1000000 }
         requires interval { 0 < self.now.checkpoint_interval }
-        requires none { states.old ≡ record { states = []; led_by = [] } }
+        requires none { states.old ≡ record { states = []; led_by = []; never = states.old.never } }
+        requires known { IsKnown states.old.never B.next body.now }
         ensures covers { IfOk result (Covering R.receives receiver.old receiver.new self.now B.next body.now (S.gives store.old) (S.holds store.new) (C.answered clock.new)) }
         ensures errors { IfErr result (IsNoReport self.now (S.gives store.old) (receiver.new ≡ receiver.old)) }
         ensures left { OnErr result (StillHolds self.now B.next body.now (S.gives store.old) (S.holds store.old) (S.holds store.new)) }

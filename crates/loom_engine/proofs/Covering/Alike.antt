@@ -1,13 +1,15 @@
 -- Trees that go on alike: one tree and then another, and steps of the machine on the way of a run.
-use Rattle.std.proofs.Common.{◌≡◌, Bool, true, List, [], ◌∷◌, ◌++◌, length, refl, sym, inl, inr, subst}
+use Rattle.std.proofs.Common.{◌≡◌, Bool, true, List, [], ◌∷◌, ◌++◌, length, Result, Ok, Err, refl, sym, inl, inr, subst}
 use Rattle.loom_objects.specs.declared.choice.Choice.{Choice}
+use Rattle.loom_objects.specs.Exploring.{is_on}
 use Rattle.loom_objects.specs.Tree.Question.{Question, Among, made_of}
-use Rattle.loom_objects.specs.Tree.Tree.{Tree, Gives, Fails, Closes, Asks, ◌>>=◌}
+use Rattle.loom_objects.specs.Tree.Tree.{Tree, Gives, Fails, Closes, Asks, ◌>>=◌, came}
 use Rattle.loom_objects.specs.World.{World}
 use Rattle.loom_views.specs.declared.rt.failure.FailureKind.{FailureKind}
 use Rattle.loom_engine.specs.Runs.Course.{Course, carried, one_passed}
 use Rattle.loom_engine.specs.Covering.Alike.{AreAlike}
 use Rattle.loom_engine.specs.Covering.States.{BothAlike}
+use Rattle.loom_engine.proofs.Runs.Answering.{Answers}
 
 module _ (limits : FailureKind → Bool) where
   pub limit_left : {A B : Type 0} (Same : A → B → Type 0) (kind : FailureKind) (u : Tree B) → limits kind ≡ true → AreAlike limits Same (Fails kind) u
@@ -63,10 +65,10 @@ module _ (limits : FailureKind → Bool) where
 
   -- ---- courses
 
-  module _ {D : Type 0} (Alike : World D → World D → Type 0) where
+  module _ {D : Type 0} (Alike : Bool → World D → World D → Type 0) where
     -- their states are alike, both explore or don't, and there are accesses of as many threads in order
     pub record CoursesAlike (c d : Course D) : Type 0 where
-      pub world : Alike c.world d.world
+      pub world : Alike (is_on c.exploring) c.world d.world
       pub exploring : c.exploring ≡ d.exploring
       pub ordered : length c.order.threads ≡ length d.order.threads
 
@@ -74,7 +76,7 @@ module _ (limits : FailureKind → Bool) where
     WithCourses (a, c) (b, d) = (a ≡ b) × CoursesAlike c d
 
     pub carried_alike : {A : Type 0} (c d : Course D) (t u : Tree (A × World D)) → c.exploring ≡ d.exploring → length c.order.threads ≡ length d.order.threads
-        → AreAlike limits (BothAlike Alike) t u → AreAlike limits WithCourses (carried c t) (carried d u)
+        → AreAlike limits (BothAlike (Alike (is_on c.exploring))) t u → AreAlike limits WithCourses (carried c t) (carried d u)
     carried_alike c d (Gives (a, w)) (Gives (b, v)) e n p = (p.0, record { world = p.1; exploring = e; ordered = n })
     carried_alike c d (Gives (a, w)) (Fails kind) e n p = p
     carried_alike c d (Gives (a, w)) (Closes rest) e n p = absurd p
@@ -92,6 +94,18 @@ module _ (limits : FailureKind → Bool) where
     carried_alike c d (Asks question branches) (Closes rest) e n p = absurd p
     carried_alike c d (Asks question branches) (Asks asked others) e n p =
         (p.0, λ o a. carried_alike (one_passed c) (one_passed d) (branches o) (others o) e n (p.1 o a))
+
+    -- what a step without a choice answers holds where it is alike to another one
+    pub carried_too : {A : Type 0} (P : A → Type 0) (c : Course D) (r : Result (A × World D) FailureKind) (u : Tree (A × Course D)) → Answers (λ x. P x.0) r
+        → AreAlike limits WithCourses (carried c (came r)) u → AreAlike limits (λ x y. WithCourses x y × P x.0) (carried c (came r)) u
+    carried_too P c (Ok (a, w)) (Gives b) p h = (h, p)
+    carried_too P c (Ok (a, w)) (Fails kind) p h = h
+    carried_too P c (Ok (a, w)) (Closes rest) p h = h
+    carried_too P c (Ok (a, w)) (Asks question branches) p h = h
+    carried_too P c (Err kind) (Gives b) p h = h
+    carried_too P c (Err kind) (Fails other) p h = h
+    carried_too P c (Err kind) (Closes rest) p h = h
+    carried_too P c (Err kind) (Asks question branches) p h = h
 
 -- ---- ways through a tree
 

@@ -1,5 +1,5 @@
 -- Where what is seen of points tells their moves, the state with that in their place tells the future.
-use Rattle.std.proofs.Common.{◌≡◌, ℕ, Bool, true, List, [], ◌∷◌, length, refl, ap, sym, subst, inl}
+use Rattle.std.proofs.Common.{◌≡◌, ℕ, Bool, true, false, List, [], ◌∷◌, length, refl, ap, ap₂, sym, subst, inl}
 use Rattle.std.specs.Prelude.{◌+◌, slice_index, slice_set}
 use Rattle.loom_views.specs.Views.{Points, opening}
 use Rattle.loom_views.specs.declared.rt.failure.FailureKind.{FailureKind}
@@ -19,20 +19,20 @@ use Rattle.loom_objects.specs.Rules.Moves.{takes_result}
 use Rattle.loom_objects.specs.Rules.Steps.{asked, asks_slot, begins, enters_wait, read_slot, resumes, slot_of, told, turned}
 use Rattle.loom_objects.specs.Rules.Tables.{chosen}
 use Rattle.loom_objects.specs.Rules.Uses.{use_at}
-use Rattle.loom_objects.specs.Schedule.Offers.{offers}
+use Rattle.loom_objects.specs.Schedule.Offers.{offers, standings}
 use Rattle.loom_objects.specs.Tree.Asked.{which_thread}
 use Rattle.loom_objects.specs.Tree.Question.{made_of}
 use Rattle.loom_objects.specs.Tree.Stores.{slots}
 use Rattle.loom_objects.specs.Tree.Tree.{Tree, ◌>>=◌, came}
 use Rattle.loom_objects.specs.World.{World}
 use Rattle.loom_engine.specs.Covering.Alike.{AreAlike}
-use Rattle.loom_engine.specs.Covering.Points.{PointsLaw, Sight, TellsMoves, sight}
+use Rattle.loom_engine.specs.Covering.Points.{PointsLaw, Sight, TellsMoves, YieldsLaw, sight, yields_seen}
 use Rattle.loom_engine.specs.Covering.Sound.{OffersSame}
 use Rattle.loom_engine.specs.Covering.States.{BothAlike, EndsAlike, LooksSame, end_alone, TellsFuture}
 use Rattle.loom_engine.proofs.Covering.Alike.{then_alike, weaker}
 use Rattle.loom_engine.proofs.Covering.Kinds.{enters_wait_so}
 use Rattle.loom_engine.proofs.Covering.Rules.{Like, SeenSame, YieldsTell, reads_so, with_other}
-use Rattle.loom_engine.proofs.Covering.Seen.{end_of_like, ended_by}
+use Rattle.loom_engine.proofs.Covering.Seen.{end_of_like, ended_by, options_same, standings_same}
 use Rattle.loom_engine.proofs.Covering.Tables.{chosen_so, counted_so}
 
 module _ {D V : Type 0} (limits : FailureKind → Bool) (steps : limits TooManySteps ≡ true) (seen : Points → V) (see : List ℕ → List ℕ) (more : YieldsTell see) (tells : TellsMoves limits seen) where
@@ -78,72 +78,82 @@ module _ {D V : Type 0} (limits : FailureKind → Bool) (steps : limits TooManyS
   resumes_so explores t w q k y e =
       then_alike limits (BothAlike (Like limits seen see)) (BothAlike (Like limits seen see)) (came (chosen t w)) (came (chosen t (Other q k y w))) (asked explores) (asked explores) (chosen_so limits steps seen see more tells t w q k y e) (asked_so explores)
 
--- ---- what is seen of a state, with all of its yields
+-- ---- what is seen of a state
 
-exact : List ℕ → List ℕ
-exact yields = yields
+module _ {D V : Type 0} (limits : FailureKind → Bool) (steps : limits TooManySteps ≡ true) (seen : Points → V) (tells : TellsMoves limits seen) (see : Bool → List ℕ → List ℕ) (more : (explores : Bool) → YieldsTell (see explores)) (offered : (explores : Bool) (w : World D) (y : List ℕ) → see explores w.yields ≡ see explores y → OffersSame (made_of (which_thread explores (offers w) [])) (made_of (which_thread explores (offers (record w { yields = y })) []))) where
+  abbrev With : Bool → Points → ℕ → List ℕ → World D → World D
+  With x q k y w = with_other limits seen (see x) q k y w
 
-exact_more : YieldsTell exact
-exact_more a b t e = ap (λ (yields : List ℕ). slice_set yields t (slice_index yields t + 1)) e
+  abbrev Alike : Bool → World D → World D → Type 0
+  Alike x w v = Like limits seen (see x) w v
 
-module _ {D V : Type 0} (limits : FailureKind → Bool) (steps : limits TooManySteps ≡ true) (seen : Points → V) (tells : TellsMoves limits seen) where
-  abbrev With : Points → ℕ → List ℕ → World D → World D
-  With q k y w = with_other limits seen exact q k y w
+  abbrev shown : Bool → World D → Sight D V
+  shown x w = sight seen (record w { yields = see x w.yields })
 
-  abbrev Alike : World D → World D → Type 0
-  Alike w v = Like limits seen exact w v
+  abbrev Same : Bool → World D → World D → Type 0
+  Same x w v = LooksSame shown x w v
 
-  abbrev Same : World D → World D → Type 0
-  Same w v = LooksSame (sight seen) w v
-
-  like_of : (w v : World D) → Same w v → Alike w v
-  like_of w v h = (
+  like_of : (x : Bool) (w v : World D) → Same x w v → Alike x w v
+  like_of x w v h = (
     v.points,
     v.steps_left,
     v.yields,
     (ap (λ (s : Sight D V). s.points) h, ap (λ (s : Sight D V). s.rest.yields) h),
-    sym (ap (λ (x : World D). record x { points = v.points; steps_left = v.steps_left; yields = v.yields }) (ap (λ (s : Sight D V). s.rest) h)),
+    sym (ap (λ (u : World D). record u { points = v.points; steps_left = v.steps_left; yields = v.yields }) (ap (λ (s : Sight D V). s.rest) h)),
   )
 
-  abbrev sight_with : World D → V → Sight D V
-  sight_with w x = record { rest = record w { points = opening; steps_left = 0 }; points = x }
+  abbrev sight_with : World D → V → List ℕ → Sight D V
+  sight_with w p y = record { rest = record w { points = opening; steps_left = 0; yields = y }; points = p }
 
-  seen_so : (w : World D) (q : Points) (k : ℕ) (y : List ℕ) → SeenSame limits seen exact w q y → Same w (With q k y w)
-  seen_so w q k y e = subst (λ z. Same w (With q k z w)) e.1 (ap (sight_with w) e.0)
+  same_of : (x : Bool) (w v : World D) → Alike x w v → Same x w v
+  same_of x w v (q, k, y, e, i) = subst (λ u. Same x w u) (sym i) (ap₂ (λ (p : V) (l : List ℕ). sight_with w p l) e.0 e.1)
 
-  same_of : (w v : World D) → Alike w v → Same w v
-  same_of w v (q, k, y, e, i) = subst (λ x. Same w x) (sym i) (seen_so w q k y e)
+  both_same : {A : Type 0} (x : Bool) (a b : A × World D) → BothAlike (Alike x) a b → BothAlike (Same x) a b
+  both_same x (a, w) (b, v) (i, h) = (i, same_of x w v h)
 
-  both_same : {A : Type 0} (a b : A × World D) → BothAlike Alike a b → BothAlike (LooksSame (sight seen)) a b
-  both_same (a, w) (b, v) (i, h) = (i, same_of w v h)
-
-  as_seen : {A : Type 0} (t u : Tree (A × World D)) → AreAlike limits (BothAlike Alike) t u → AreAlike limits (BothAlike (LooksSame (sight seen))) t u
-  as_seen t u h = weaker limits (BothAlike Alike) (BothAlike (LooksSame (sight seen))) t u both_same h
+  as_seen : {A : Type 0} (x : Bool) (t u : Tree (A × World D)) → AreAlike limits (BothAlike (Alike x)) t u → AreAlike limits (BothAlike (Same x)) t u
+  as_seen x t u h = weaker limits (BothAlike (Alike x)) (BothAlike (Same x)) t u (λ a b i. both_same x a b i) h
 
   -- what holds of the same state with other points holds of one that looks the same
-  moved_to : (P : World D → World D → Type 0) (w v : World D) → ((q : Points) (k : ℕ) (y : List ℕ) → SeenSame limits seen exact w q y → P w (With q k y w)) → Same w v → P w v
-  moved_to P w v h s = let l = like_of w v s in subst (λ x. P w x) (sym l.4) (h l.0 l.1 l.2 l.3)
+  moved_to : (x : Bool) (P : World D → World D → Type 0) (w v : World D) → ((q : Points) (k : ℕ) (y : List ℕ) → SeenSame limits seen (see x) w q y → P w (With x q k y w)) → Same x w v → P w v
+  moved_to x P w v h s = let l = like_of x w v s in subst (λ u. P w u) (sym l.4) (h l.0 l.1 l.2 l.3)
 
-  ends_here : (w : World D) (q : Points) (k : ℕ) (y : List ℕ) → EndsAlike limits (end_alone w) (end_alone (With q k y w))
-  ends_here w q k y = subst (λ x. EndsAlike limits (end_alone w) x) (end_of_like w (With q k y w) refl refl) (ended_by (check_leak (first_leak w.objects)) (takes_result 0 w) limits)
+  ends_here : (x : Bool) (w : World D) (q : Points) (k : ℕ) (y : List ℕ) → EndsAlike limits (end_alone w) (end_alone (With x q k y w))
+  ends_here x w q k y = subst (λ u. EndsAlike limits (end_alone w) u) (end_of_like w (With x q k y w) refl refl) (ended_by (check_leak (first_leak w.objects)) (takes_result 0 w) limits)
 
-  -- the default is the same too: what is seen tells all yields
-  offers_here : (explores : Bool) (w : World D) (q : Points) (k : ℕ) (y : List ℕ) → w.yields ≡ y → OffersSame (made_of (which_thread explores (offers w) [])) (made_of (which_thread explores (offers (With q k y w)) []))
-  offers_here explores w q k y e = subst (λ z. OffersSame (made_of (which_thread explores (offers w) [])) (made_of (which_thread explores (offers (With q k z w)) []))) e (refl, refl, λ f. refl)
-
-  pub points_tell : TellsFuture limits (λ explores (w : World D). sight seen w) (LooksSame (sight {D = D} seen))
+  pub points_tell : TellsFuture limits shown (LooksSame shown)
   points_tell = record {
-    threads = λ w v h. ap (λ (s : Sight D V). length s.rest.threads) h;
-    active = λ w v h. ap (λ (s : Sight D V). s.rest.active) h;
-    looks = λ explores w v h. h;
-    begins = λ todo w v h. moved_to (λ x y. AreAlike limits (BothAlike (LooksSame (sight seen))) (begins todo x) (begins todo y)) w v (λ q k y e. as_seen (begins todo w) (begins todo (With q k y w)) (counted_so limits steps seen exact exact_more tells todo w q k y e)) h;
-    waits = λ b n w v h. moved_to (λ x y. AreAlike limits (BothAlike (LooksSame (sight seen))) (enters_wait b n x) (enters_wait b n y)) w v (λ q k y e. as_seen (enters_wait b n w) (enters_wait b n (With q k y w)) (enters_wait_so limits steps seen exact exact_more tells b n w q k y e)) h;
-    resumes = λ explores t w v h. moved_to (λ x y. AreAlike limits (BothAlike (LooksSame (sight seen))) (resumes explores t x) (resumes explores t y)) w v (λ q k y e. as_seen (resumes explores t w) (resumes explores t (With q k y w)) (resumes_so limits steps seen exact exact_more tells explores t w q k y e)) h;
-    ends = λ explores w v h. moved_to (λ x y. EndsAlike limits (end_alone x) (end_alone y)) w v (λ q k y e. ends_here w q k y) h;
-    all_ended = λ explores w v h. ap (λ (s : Sight D V). all_ended s.rest) h;
-    uses = λ explores w v h t. ap (λ (s : Sight D V). use_at s.rest.threads t) h;
-    offers = λ explores w v h. moved_to (λ x y. OffersSame (made_of (which_thread explores (offers x) [])) (made_of (which_thread explores (offers y) []))) w v (λ q k y e. offers_here explores w q k y e.1) h;
+    threads = λ x w v h. ap (λ (s : Sight D V). length s.rest.threads) h;
+    active = λ x w v h. ap (λ (s : Sight D V). s.rest.active) h;
+    looks = λ x w v h. h;
+    begins = λ x todo w v h. moved_to x (λ a b. AreAlike limits (BothAlike (Same x)) (begins todo a) (begins todo b)) w v (λ q k y e. as_seen x (begins todo w) (begins todo (With x q k y w)) (counted_so limits steps seen (see x) (more x) tells todo w q k y e)) h;
+    waits = λ x b n w v h. moved_to x (λ a c. AreAlike limits (BothAlike (Same x)) (enters_wait b n a) (enters_wait b n c)) w v (λ q k y e. as_seen x (enters_wait b n w) (enters_wait b n (With x q k y w)) (enters_wait_so limits steps seen (see x) (more x) tells b n w q k y e)) h;
+    resumes = λ x t w v h. moved_to x (λ a b. AreAlike limits (BothAlike (Same x)) (resumes x t a) (resumes x t b)) w v (λ q k y e. as_seen x (resumes x t w) (resumes x t (With x q k y w)) (resumes_so limits steps seen (see x) (more x) tells x t w q k y e)) h;
+    ends = λ x w v h. moved_to x (λ a b. EndsAlike limits (end_alone a) (end_alone b)) w v (λ q k y e. ends_here x w q k y) h;
+    all_ended = λ x w v h. ap (λ (s : Sight D V). all_ended s.rest) h;
+    uses = λ x w v h t. ap (λ (s : Sight D V). use_at s.rest.threads t) h;
+    offers = λ x w v h. moved_to x (λ a b. OffersSame (made_of (which_thread x (offers a) [])) (made_of (which_thread x (offers b) []))) w v (λ q k y e. offered x w y e.1) h;
   }
 
+module _ {D : Type 0} where
+  -- the default is the same too, where all is seen of the yields
+  default_same : (explores : Bool) (w : World D) (y : List ℕ) → w.yields ≡ y → OffersSame (made_of (which_thread explores (offers w) [])) (made_of (which_thread explores (offers (record w { yields = y })) []))
+  default_same explores w y e = subst (λ z. OffersSame (made_of (which_thread explores (offers w) [])) (made_of (which_thread explores (offers (record w { yields = z })) []))) e (refl, refl, λ f. refl)
+
+  -- the options are the same whatever they are
+  any_yields : (explores : Bool) (w : World D) (y : List ℕ) → yields_seen explores w.yields ≡ yields_seen explores y → OffersSame (made_of (which_thread explores (offers w) [])) (made_of (which_thread explores (offers (record w { yields = y })) []))
+  any_yields true w y e = (options_same (standings w) (standings (record w { yields = y })) (standings_same w.yields y w.threads (0 ∷ 1 ∷ 2 ∷ 3 ∷ 4 ∷ [])) w.active, refl, λ f. absurd (cc f))
+  any_yields false w y e = default_same false w y e
+
+more_alike : (a b : List ℕ) (t : ℕ) → a ≡ b → slice_set a t (slice_index a t + 1) ≡ slice_set b t (slice_index b t + 1)
+more_alike a b t e = ap (λ (yields : List ℕ). slice_set yields t (slice_index yields t + 1)) e
+
+seen_more : (explores : Bool) → YieldsTell (yields_seen explores)
+seen_more true a b t e = refl
+seen_more false a b t e = more_alike a b t e
+
 pub points_law : {D V : Type 0} → PointsLaw D V
-points_law limits seen steps tells = points_tell limits steps seen tells
+points_law limits seen steps tells = points_tell limits steps seen tells (λ explores yields. yields) (λ explores a b t e. more_alike a b t e) (λ explores w y e. default_same explores w y e)
+
+pub yields_law : {D V : Type 0} → YieldsLaw D V
+yields_law limits seen steps tells = points_tell limits steps seen tells yields_seen seen_more (λ explores w y e. any_yields explores w y e)

@@ -18,7 +18,7 @@ use Rattle.loom_engine.specs.Covering.Lost.{AreLost}
 use Rattle.loom_engine.specs.Covering.Ways.{CanEnd, HasEnded}
 use Rattle.loom_engine.specs.Covering.Cut.{with_run}
 use Rattle.loom_engine.specs.Covering.Kept.{Key}
-use Rattle.loom_engine.specs.Covering.Sight.{seen_at}
+use Rattle.loom_engine.specs.Covering.Sight.{IsKnown, seen_by}
 use Rattle.loom_engine.specs.Covering.States.{AreLimits, state_after}
 use Rattle.loom_engine.specs.Covering.Table.{IsAlong, Notes, notes_more, notes_none}
 use Rattle.loom_engine.specs.Covering.World.{IsCalled, world_of}
@@ -62,47 +62,47 @@ module _ {A K : Type 0} (room : ℕ) (adds : Marking) (tree : Tree A) (sound : I
         in_world room adds tree sound fair key lefts (choices path.nodes) value (round room adds tree sound fair along.stop p (Ok (Some value)) path (notes_rest old left given p notes) along.past along.comes).comes in
         record { value = value; over = world_ends tree (choices path.nodes) (Ok value) came; came = came; given = was_given }
 
-module _ {D S : Type 0} (next : Meaning D S) (explores : Bool) (max_threads max_steps room : ℕ) (adds : Marking) (fair : IsMarking adds) (body : S) where
+module _ {D S : Type 0} (never : Bool) (next : Meaning D S) (explores : Bool) (max_threads max_steps room : ℕ) (adds : Marking) (fair : IsMarking adds) (body : S) (known : IsKnown never next body) where
   pub body_sound : IsSoundTree (runs next explores max_threads max_steps body)
   body_sound = (run_tree_law next explores max_threads max_steps body).sound
 
   -- where nothing is left each run is covered
   pub covers_all : (old new : List (Key D S)) (left : List (List Stored)) (given : List (List Choice × D)) (p : List Stored) (came : Option D) (path : Trail)
-      → Notes room adds (runs next explores max_threads max_steps body) (state_after seen_at next explores max_threads max_steps body) old left given p
-      → IsAlong room adds (runs next explores max_threads max_steps body) (state_after seen_at next explores max_threads max_steps body) old p (Ok came) path new → step path.nodes ≡ None
+      → Notes room adds (runs next explores max_threads max_steps body) (state_after (seen_by never) next explores max_threads max_steps body) old left given p
+      → IsAlong room adds (runs next explores max_threads max_steps body) (state_after (seen_by never) next explores max_threads max_steps body) old p (Ok came) path new → step path.nodes ≡ None
       → (limits : FailureKind → Bool) (steps_too : ℕ) → AreLimits limits
       → Covers limits (world_of (runs next explores max_threads max_steps body)) (world_of (runs next explores max_threads steps_too body)) (given ++ with_run (choices path.nodes) came [])
   covers_all old new left given p came path notes along none limits steps_too are =
-      seen_body_law limits next explores max_threads max_steps steps_too room adds body (left ++ path.nodes ∷ []) (given ++ with_run (choices path.nodes) came []) are fair
-      (table_law room adds (runs next explores max_threads max_steps body) (state_after seen_at next explores max_threads max_steps body) old new left given p came path notes along none)
+      seen_body_law never limits next explores max_threads max_steps steps_too room adds body (left ++ path.nodes ∷ []) (given ++ with_run (choices path.nodes) came []) known are fair
+      (table_law room adds (runs next explores max_threads max_steps body) (state_after (seen_by never) next explores max_threads max_steps body) old new left given p came path notes along none)
 
   -- and where each state that was noted reaches an end, its runs can end
   pub ends_all : (old new : List (Key D S)) (left : List (List Stored)) (given : List (List Choice × D)) (p : List Stored) (came : Option D) (path : Trail)
-      → Notes room adds (runs next explores max_threads max_steps body) (state_after seen_at next explores max_threads max_steps body) old left given p
-      → IsAlong room adds (runs next explores max_threads max_steps body) (state_after seen_at next explores max_threads max_steps body) old p (Ok came) path new → step path.nodes ≡ None
+      → Notes room adds (runs next explores max_threads max_steps body) (state_after (seen_by never) next explores max_threads max_steps body) old left given p
+      → IsAlong room adds (runs next explores max_threads max_steps body) (state_after (seen_by never) next explores max_threads max_steps body) old p (Ok came) path new → step path.nodes ≡ None
       → (led_by : List (List Choice)) (ways : List Way)
-      → AreMade (world_of (runs next explores max_threads max_steps body)) (state_after seen_at next explores max_threads max_steps body) (left ++ path.nodes ∷ []) (given ++ with_run (choices path.nodes) came []) led_by ways
+      → AreMade (world_of (runs next explores max_threads max_steps body)) (state_after (seen_by never) next explores max_threads max_steps body) (left ++ path.nodes ∷ []) (given ++ with_run (choices path.nodes) came []) led_by ways
       → ((n : ℕ) → n < length led_by → Leads ways (length led_by) None n) → (limits : FailureKind → Bool) → AreLimits limits → CanEnd limits (λ steps. world_of (runs next explores max_threads steps body))
   ends_all old new left given p came path notes along none led_by ways made reach limits are =
-      body_ends_law limits next explores max_threads max_steps room adds body (left ++ path.nodes ∷ []) (given ++ with_run (choices path.nodes) came []) are fair
-      (table_law room adds (runs next explores max_threads max_steps body) (state_after seen_at next explores max_threads max_steps body) old new left given p came path notes along none)
-      (have_ways (world_of (runs next explores max_threads max_steps body)) (state_after seen_at next explores max_threads max_steps body) (left ++ path.nodes ∷ []) (given ++ with_run (choices path.nodes) came []) led_by ways made reach)
+      body_ends_law never limits next explores max_threads max_steps room adds body (left ++ path.nodes ∷ []) (given ++ with_run (choices path.nodes) came []) known are fair
+      (table_law room adds (runs next explores max_threads max_steps body) (state_after (seen_by never) next explores max_threads max_steps body) old new left given p came path notes along none)
+      (have_ways (world_of (runs next explores max_threads max_steps body)) (state_after (seen_by never) next explores max_threads max_steps body) (left ++ path.nodes ∷ []) (given ++ with_run (choices path.nodes) came []) led_by ways made reach)
 
   -- the choices before a node are those that a run can make
   pub called_there : (old new : List (Key D S)) (left : List (List Stored)) (given : List (List Choice × D)) (p : List Stored) (came : Option D) (path : Trail)
-      → Notes room adds (runs next explores max_threads max_steps body) (state_after seen_at next explores max_threads max_steps body) old left given p
-      → IsAlong room adds (runs next explores max_threads max_steps body) (state_after seen_at next explores max_threads max_steps body) old p (Ok came) path new → step path.nodes ≡ None
+      → Notes room adds (runs next explores max_threads max_steps body) (state_after (seen_by never) next explores max_threads max_steps body) old left given p
+      → IsAlong room adds (runs next explores max_threads max_steps body) (state_after (seen_by never) next explores max_threads max_steps body) old p (Ok came) path new → step path.nodes ≡ None
       → (q : List Stored) (c : List Choice) (n : Stored) → IsOneOf q (left ++ path.nodes ∷ []) → node_at q c ≡ Some n → IsCalled (world_of (runs next explores max_threads max_steps body)) c
   called_there old new left given p came path notes along none q c n i at =
-      body_called next explores max_threads max_steps room adds body (left ++ path.nodes ∷ []) (given ++ with_run (choices path.nodes) came []) fair
-      (table_law room adds (runs next explores max_threads max_steps body) (state_after seen_at next explores max_threads max_steps body) old new left given p came path notes along none) q c n i at
+      body_called never next explores max_threads max_steps room adds body (left ++ path.nodes ∷ []) (given ++ with_run (choices path.nodes) came []) known fair
+      (table_law room adds (runs next explores max_threads max_steps body) (state_after (seen_by never) next explores max_threads max_steps body) old new left given p came path notes along none) q c n i at
 
   -- no run ends that goes on from choices that are lost
   pub never_ends_there : (old new : List (Key D S)) (left : List (List Stored)) (given : List (List Choice × D)) (p : List Stored) (came : Option D) (path : Trail)
-      → Notes room adds (runs next explores max_threads max_steps body) (state_after seen_at next explores max_threads max_steps body) old left given p
-      → IsAlong room adds (runs next explores max_threads max_steps body) (state_after seen_at next explores max_threads max_steps body) old p (Ok came) path new → step path.nodes ≡ None
-      → (IsLost : List Choice → Type 0) → AreLost (state_after seen_at next explores max_threads max_steps body) (left ++ path.nodes ∷ []) IsLost → (steps_too : ℕ) (c more : List Choice) (value : D) → IsLost c
+      → Notes room adds (runs next explores max_threads max_steps body) (state_after (seen_by never) next explores max_threads max_steps body) old left given p
+      → IsAlong room adds (runs next explores max_threads max_steps body) (state_after (seen_by never) next explores max_threads max_steps body) old p (Ok came) path new → step path.nodes ≡ None
+      → (IsLost : List Choice → Type 0) → AreLost (state_after (seen_by never) next explores max_threads max_steps body) (left ++ path.nodes ∷ []) IsLost → (steps_too : ℕ) (c more : List Choice) (value : D) → IsLost c
       → IsCalled (world_of (runs next explores max_threads steps_too body)) (c ++ more) → (world_of (runs next explores max_threads steps_too body)).outcome (c ++ more) ≡ Some (Ok value) → ⊥
   never_ends_there old new left given p came path notes along none IsLost lost steps_too c more value is called came_so =
-      body_lost next explores max_threads max_steps room adds body (left ++ path.nodes ∷ []) (given ++ with_run (choices path.nodes) came []) fair
-      (table_law room adds (runs next explores max_threads max_steps body) (state_after seen_at next explores max_threads max_steps body) old new left given p came path notes along none) IsLost lost steps_too c more value is called came_so
+      body_lost never next explores max_threads max_steps room adds body (left ++ path.nodes ∷ []) (given ++ with_run (choices path.nodes) came []) known fair
+      (table_law room adds (runs next explores max_threads max_steps body) (state_after (seen_by never) next explores max_threads max_steps body) old new left given p came path notes along none) IsLost lost steps_too c more value is called came_so

@@ -18,11 +18,12 @@ use Rattle.loom_objects.specs.declared.rt.run.Entry.{Entry}
 use Rattle.loom_objects.specs.declared.rt.run.Entry.TheVariants.{Answered, AtBranch, Explores, Spurious as AtSpurious}
 use Rattle.loom_objects.specs.declared.rt.run.Passed.{Passed}
 use Rattle.loom_objects.specs.declared.rt.run.Passed.TheVariants as passed
-use Rattle.loom_objects.specs.Exploring.{is_on, switched}
+use Rattle.loom_objects.specs.Exploring.{is_on, is_switch, switched}
 use Rattle.loom_objects.specs.Operation.Labelled.{Op}
 use Rattle.loom_objects.specs.Operation.Plain.{plain, started}
 use Rattle.loom_objects.specs.Rules.Ending.{all_ended, end_of}
 use Rattle.loom_objects.specs.Rules.Steps.{begins, ends, enters_wait, resumes}
+use Rattle.loom_objects.specs.Rules.Tables.{counted}
 use Rattle.loom_objects.specs.Rules.Uses.{use_at}
 use Rattle.loom_objects.specs.Schedule.Offers.{offers}
 use Rattle.loom_objects.specs.Tree.Asked.{which_thread}
@@ -35,8 +36,11 @@ use Rattle.loom_engine.specs.Runs.Machine.{chooses, closes, further_branches, go
 use Rattle.loom_engine.specs.Covering.Sound.{OffersSame}
 use Rattle.loom_engine.specs.Covering.Alike.{AreAlike}
 use Rattle.loom_engine.specs.Covering.Moments.{Moment, Next, RunEnds, Stands, at_branch, at_next, at_schedule, entered, from_schedule, gone_on, handing, question_at, to_schedule, woken}
-use Rattle.loom_engine.specs.Covering.States.{State, state_of, BothAlike, EndsAlike, end_alone, turn_of, TellsFuture, AreLimits}
-use Rattle.loom_engine.proofs.Covering.Alike.{limit_left, limit_right, then_alike, weaker, CoursesAlike, WithCourses, carried_alike}
+use Rattle.loom_engine.specs.Covering.States.{State, state_of, BothAlike, EndsAlike, KeepsAlike, end_alone, turn_of, TellsFuture, AreLimits}
+use Rattle.loom_engine.proofs.Covering.Alike.{limit_left, limit_right, then_alike, weaker, CoursesAlike, WithCourses, carried_alike, carried_too}
+use Rattle.loom_engine.proofs.Runs.Answering.{Answers}
+use Rattle.loom_engine.proofs.Runs.Exploring.{counted_unswitched, plain_unswitched}
+use Rattle.loom_engine.proofs.Runs.Replies.{IsNoSwitch, Unswitched}
 
 -- ---- how many threads there are accesses of
 
@@ -98,7 +102,7 @@ module _ (limits : FailureKind → Bool) (are : AreLimits limits) where
   used_alike t used place there o p (Some a) None h e = absurd h
   used_alike t used place there o p (Some a) (Some b) h e = raised_alike t used place there o p _ _ e
 
-  module _ {D K : Type 0} (look : Bool → World D → K) (Alike : World D → World D → Type 0) (tells : TellsFuture limits look Alike) where
+  module _ {D K : Type 0} (look : Bool → World D → K) (Alike : Bool → World D → World D → Type 0) (tells : TellsFuture limits look Alike) where
     abbrev Courses : Course D → Course D → Type 0
     Courses c d = CoursesAlike limits Alike c d
 
@@ -138,7 +142,7 @@ module _ (limits : FailureKind → Bool) (are : AreLimits limits) where
     goes_alike : (t : ℕ) (c d : Course D) → Facing c d → AreAlike limits (WithCourses limits Alike) (goes_by t c) (goes_by t d)
     goes_alike t c d f =
         carried_alike limits Alike (one_passed c) (one_passed d) (resumes (is_on c.exploring) t c.world) (resumes (is_on d.exploring) t d.world) f.exploring f.ordered
-        (subst (λ x. AreAlike limits (BothAlike Alike) (resumes (is_on c.exploring) t c.world) (resumes (is_on x) t d.world)) f.exploring (tells.resumes (is_on c.exploring) t c.world d.world f.seen))
+        (subst (λ x. AreAlike limits (BothAlike (Alike (is_on c.exploring))) (resumes (is_on c.exploring) t c.world) (resumes (is_on x) t d.world)) f.exploring (tells.resumes (is_on c.exploring) t c.world d.world f.seen))
 
     with_orders : (t : ℕ) (c d e f : Course D) → Facing c d → WithOrders c d e f → AreAlike limits (WithCourses limits Alike) (goes_by t e) (goes_by t f)
     with_orders t c d e f z (o, p, g, h, n) =
@@ -182,11 +186,11 @@ module _ (limits : FailureKind → Bool) (are : AreLimits limits) where
     grown_alike c d e f h g = record {
       world = g.world;
       exploring = g.exploring;
-      ordered = appended e.order.threads _ f.order.threads _ g.ordered (by (length e.world.threads - length c.world.threads) (length f.world.threads - length d.world.threads) as_many c.world.active d.world.active (tells.active c.world d.world h.world));
+      ordered = appended e.order.threads _ f.order.threads _ g.ordered (by (length e.world.threads - length c.world.threads) (length f.world.threads - length d.world.threads) as_many c.world.active d.world.active (tells.active (is_on c.exploring) c.world d.world h.world));
     }
       where
         as_many : length e.world.threads - length c.world.threads ≡ length f.world.threads - length d.world.threads
-        as_many = ap₂ (λ x y. x - y) (tells.threads e.world f.world g.world) (tells.threads c.world d.world h.world)
+        as_many = ap₂ (λ x y. x - y) (tells.threads (is_on e.exploring) e.world f.world g.world) (tells.threads (is_on c.exploring) c.world d.world h.world)
 
         by : (n k : ℕ) → n ≡ k → (t u : ℕ) → t ≡ u → length (children n (slice_get e.order.threads t)) ≡ length (children k (slice_get f.order.threads u))
         by n k i t u j =
@@ -214,10 +218,30 @@ module _ (limits : FailureKind → Bool) (are : AreLimits limits) where
       woken_alike left left_too bodies n c d (choice.Spurious answer) h =
           then_alike limits (WithCourses limits Alike) NextAlike (carried (one_passed c) (enters_wait answer n c.world)) (carried (one_passed d) (enters_wait answer n d.world))
           (λ after. Gives (at_branch left bodies after.1)) (λ after. Gives (at_branch left_too bodies after.1))
-          (carried_alike limits Alike (one_passed c) (one_passed d) (enters_wait answer n c.world) (enters_wait answer n d.world) h.exploring h.ordered (tells.waits answer n c.world d.world h.world))
+          (carried_alike limits Alike (one_passed c) (one_passed d) (enters_wait answer n c.world) (enters_wait answer n d.world) h.exploring h.ordered (tells.waits (is_on c.exploring) answer n c.world d.world h.world))
           (λ (a, e) (b, f) g. stands_alike bodies further_branches left left_too e f g.1)
       woken_alike left left_too bodies n c d (choice.Thread t) h = inl refl
       woken_alike left left_too bodies n c d (choice.Load slot) h = inl refl
+
+      -- states that are alike where the search explores, or where it doesn't, are so in both
+      abbrev InBoth : Type 0
+      InBoth = (explores to : Bool) (w v : World D) → Alike explores w v → Alike to w v
+
+      -- it is so, or the operation switches nothing
+      abbrev Keeps : Entry D → Type 0
+      Keeps entry = InBoth ⊎ IsNoSwitch entry
+
+      op_keeps : (op : Op D S) (w : World D) → InBoth ⊎ (is_switch op.request ≡ false) → Answers (λ (x : Entry D × World D). Keeps x.0) (counted (plain op) w)
+      op_keeps op w (inl both) = every (counted (plain op) w)
+        where
+          every : (r : Result (Entry D × World D) FailureKind) → Answers (λ (x : Entry D × World D). Keeps x.0) r
+          every (Ok (entry, v)) = inl both
+          every (Err kind) = tt
+      op_keeps op w (inr never) = by (counted (plain op) w) (counted_unswitched (plain op) w (plain_unswitched op.request never))
+        where
+          by : (r : Result (Entry D × World D) FailureKind) → Answers Unswitched r → Answers (λ (x : Entry D × World D). Keeps x.0) r
+          by (Ok (entry, v)) h = inr h
+          by (Err kind) h = tt
 
       -- what comes after an operation that is answered at once is alike
       abbrev RestsAlike : (List S → Course D → ℕ → Reply D → Tree (Next D S)) → (List S → Course D → ℕ → Reply D → Tree (Next D S)) → Type 0
@@ -226,37 +250,41 @@ module _ (limits : FailureKind → Bool) (are : AreLimits limits) where
       module _ (rest other : List S → Course D → ℕ → Reply D → Tree (Next D S)) (ih : RestsAlike rest other) (left left_too : ℕ) where
         told_alike : (bodies : List S) (c d : Course D) (answer : Reply D) → Courses c d → Segments (rest bodies c c.world.active answer) (other bodies d d.world.active answer)
         told_alike bodies c d answer h =
-            subst (λ t. Segments (rest bodies c c.world.active answer) (other bodies d t answer)) (tells.active c.world d.world h.world) (ih bodies c d c.world.active answer h)
+            subst (λ t. Segments (rest bodies c c.world.active answer) (other bodies d t answer)) (tells.active (is_on c.exploring) c.world d.world h.world) (ih bodies c d c.world.active answer h)
 
-        switched_alike : (todo : ExploreOp) (bodies : List S) (c d : Course D) (r : Result Exploring FailureKind) → Courses c d
+        switched_alike : InBoth → (todo : ExploreOp) (bodies : List S) (c d : Course D) (r : Result Exploring FailureKind) → Courses c d
             → Segments (came r >>= (λ x. rest bodies (record c { exploring = x }) c.world.active reply.Done)) (came r >>= (λ x. other bodies (record d { exploring = x }) d.world.active reply.Done))
-        switched_alike todo bodies c d (Ok x) h = told_alike bodies (record c { exploring = x }) (record d { exploring = x }) reply.Done (record { world = h.world; exploring = refl; ordered = h.ordered })
-        switched_alike todo bodies c d (Err kind) h = inl refl
+        switched_alike both todo bodies c d (Ok x) h =
+            told_alike bodies (record c { exploring = x }) (record d { exploring = x }) reply.Done (record { world = both (is_on c.exploring) (is_on x) c.world d.world h.world; exploring = refl; ordered = h.ordered })
+        switched_alike both todo bodies c d (Err kind) h = inl refl
 
-        entered_alike : (bodies : List S) (entry : Entry D) (c d : Course D) → Courses c d → Segments (entered (rest bodies) left bodies (entry, c)) (entered (other bodies) left_too bodies (entry, d))
-        entered_alike bodies (Answered answer) c d h = told_alike bodies c d answer h
-        entered_alike bodies AtBranch c d h = stands_alike bodies further_branches left left_too c d h
-        entered_alike bodies (AtSpurious n) c d h = ((refl, ap is_on h.exploring, λ e. refl), λ o a. woken_alike left left_too bodies n c d o h)
-        entered_alike bodies (Explores todo) c d h =
+        entered_alike : (bodies : List S) (entry : Entry D) (c d : Course D) → Keeps entry → Courses c d → Segments (entered (rest bodies) left bodies (entry, c)) (entered (other bodies) left_too bodies (entry, d))
+        entered_alike bodies (Answered answer) c d keeps h = told_alike bodies c d answer h
+        entered_alike bodies AtBranch c d keeps h = stands_alike bodies further_branches left left_too c d h
+        entered_alike bodies (AtSpurious n) c d keeps h = ((refl, ap is_on h.exploring, λ e. refl), λ o a. woken_alike left left_too bodies n c d o h)
+        entered_alike bodies (Explores todo) c d (inr never) h = absurd never
+        entered_alike bodies (Explores todo) c d (inl both) h =
             subst (λ x. Segments (entered (rest bodies) left bodies (Explores todo, c)) (came (switched todo x) >>= (λ x. other bodies (record d { exploring = x }) d.world.active reply.Done)))
-            h.exploring (switched_alike todo bodies c d (switched todo c.exploring) h)
+            h.exploring (switched_alike both todo bodies c d (switched todo c.exploring) h)
 
-        handing_alike : (bodies : List S) (c d : Course D) (thread : ℕ) (after : S) (op : Op D S) → Courses c d → Segments (handing rest left bodies c thread (after, op)) (handing other left_too bodies d thread (after, op))
-        handing_alike bodies c d thread after op h =
-            then_alike limits (WithCourses limits Alike) NextAlike (carried c (begins (plain op) c.world)) (carried d (begins (plain op) d.world)) _ _
-            (carried_alike limits Alike c d (begins (plain op) c.world) (begins (plain op) d.world) h.exploring h.ordered (tells.begins (plain op) c.world d.world h.world))
-            (λ (entry, e) (other_entry, f) g. go entry other_entry e f g.0 g.1)
+        handing_alike : (bodies : List S) (c d : Course D) (thread : ℕ) (after : S) (op : Op D S) → InBoth ⊎ (is_switch op.request ≡ false) → Courses c d
+            → Segments (handing rest left bodies c thread (after, op)) (handing other left_too bodies d thread (after, op))
+        handing_alike bodies c d thread after op keeps h =
+            then_alike limits (λ x y. WithCourses limits Alike x y × Keeps x.0) NextAlike (carried c (begins (plain op) c.world)) (carried d (begins (plain op) d.world)) _ _
+            (carried_too limits Alike Keeps c (counted (plain op) c.world) (carried d (begins (plain op) d.world)) (op_keeps op c.world keeps)
+            (carried_alike limits Alike c d (begins (plain op) c.world) (begins (plain op) d.world) h.exploring h.ordered (tells.begins (is_on c.exploring) (plain op) c.world d.world h.world)))
+            (λ (entry, e) (other_entry, f) g. let both = g.0 in go entry other_entry e f g.1 both.0 both.1)
           where
-            go : (entry other_entry : Entry D) (e f : Course D) → entry ≡ other_entry → Courses e f → Segments (entered (rest (with_child (slice_set bodies thread after) (started op))) left (with_child (slice_set bodies thread after) (started op)) (entry, grown_from c.world e)) (entered (other (with_child (slice_set bodies thread after) (started op))) left_too (with_child (slice_set bodies thread after) (started op)) (other_entry, grown_from d.world f))
-            go entry other_entry e f i g =
+            go : (entry other_entry : Entry D) (e f : Course D) → Keeps entry → entry ≡ other_entry → Courses e f → Segments (entered (rest (with_child (slice_set bodies thread after) (started op))) left (with_child (slice_set bodies thread after) (started op)) (entry, grown_from c.world e)) (entered (other (with_child (slice_set bodies thread after) (started op))) left_too (with_child (slice_set bodies thread after) (started op)) (other_entry, grown_from d.world f))
+            go entry other_entry e f k i g =
                 subst (λ y. Segments (entered (rest (with_child (slice_set bodies thread after) (started op))) left (with_child (slice_set bodies thread after) (started op)) (entry, grown_from c.world e)) (entered (other (with_child (slice_set bodies thread after) (started op))) left_too (with_child (slice_set bodies thread after) (started op)) (y, grown_from d.world f)))
-                i (entered_alike (with_child (slice_set bodies thread after) (started op)) entry (grown_from c.world e) (grown_from d.world f) (grown_alike c d e f h g))
+                i (entered_alike (with_child (slice_set bodies thread after) (started op)) entry (grown_from c.world e) (grown_from d.world f) k (grown_alike c d e f h g))
 
-      module _ (next : Meaning D S) where
+      module _ (next : Meaning D S) (keeps : KeepsAlike next Alike) where
         found_alike : (rest other : List S → Course D → ℕ → Reply D → Tree (Next D S)) → RestsAlike rest other → (left left_too : ℕ) (bodies : List S) (c d : Course D) (t : ℕ) (answer : Reply D) (body : Option S) → Courses c d
             → Segments (found body Misuse >>= (λ b. handing rest left bodies c t (next b answer))) (found body Misuse >>= (λ b. handing other left_too bodies d t (next b answer)))
         found_alike rest other ih left left_too bodies c d t answer None h = inl refl
-        found_alike rest other ih left left_too bodies c d t answer (Some b) h = handing_alike rest other ih left left_too bodies c d t (next b answer).0 (next b answer).1 h
+        found_alike rest other ih left left_too bodies c d t answer (Some b) h = handing_alike rest other ih left left_too bodies c d t (next b answer).0 (next b answer).1 (keeps b answer) h
 
         pub to_schedule_alike : (left left_too : ℕ) (bodies : List S) (c d : Course D) (t : ℕ) (answer : Reply D) → Courses c d → Segments (to_schedule next left bodies c t answer) (to_schedule next left_too bodies d t answer)
         unfolding to_schedule

@@ -1,6 +1,6 @@
 -- The whole state tells the future, and so it does without whose turn it is.
-use Rattle.std.proofs.Common.{◌≡◌, ◌⊎◌, ◌+◌, arith, ℕ, zero, suc, Bool, true, false, cond, List, [], ◌∷◌, map, length, Option, Some, None, refl, ap, sym, ◌∙◌, subst, inl, inr}
-use Rattle.std.specs.Prelude.{nat_lt, slice_get, slice_set, Result, Ok, Err, ⊤}
+use Rattle.std.proofs.Common.{◌≡◌, ◌⊎◌, ◌+◌, arith, ℕ, zero, suc, Bool, true, false, cond, List, [], ◌∷◌, map, length, Option, Some, None, refl, ap, ap₂, sym, ◌∙◌, subst, inl, inr}
+use Rattle.std.specs.Prelude.{nat_lt, slice_get, slice_index, slice_set, Result, Ok, Err, ⊤}
 use Rattle.std.specs.List.{position_from}
 use Rattle.loom_views.specs.declared.rt.failure.FailureKind.{FailureKind}
 use Rattle.loom_views.specs.declared.rt.failure.FailureKind.TheVariants.{Misuse}
@@ -16,7 +16,7 @@ use Rattle.loom_objects.specs.Rules.Rule.{◌>>=◌, found}
 use Rattle.loom_objects.specs.Rules.Steps.{begins, enters_wait, resumes}
 use Rattle.loom_objects.specs.Rules.Uses.{use_at}
 use Rattle.loom_objects.specs.Schedule.Defaults.{is_able, is_yielding, better, fewer, fewest, or_else, default_thread}
-use Rattle.loom_objects.specs.Schedule.Offers.{ability_in, offers, standings, with_able}
+use Rattle.loom_objects.specs.Schedule.Offers.{ability_in, offers, standing_at, standing_of, standings, with_able}
 use Rattle.loom_objects.specs.Tree.Asked.{which_thread}
 use Rattle.loom_objects.specs.Tree.Question.{made_of, able_threads, thread_options}
 use Rattle.loom_objects.specs.Tree.Tree.{Tree, Gives, Fails, Closes, Asks}
@@ -48,11 +48,11 @@ module _ {D : Type 0} where
 
 pub whole_law : {D : Type 0} → WholeLaw D
 whole_law {D} limits = record {
-  threads = λ w v e. ap (λ (x : World D). length x.threads) e;
-  active = λ w v e. ap (λ (x : World D). x.active) e;
+  threads = λ explores w v e. ap (λ (x : World D). length x.threads) e;
+  active = λ explores w v e. ap (λ (x : World D). x.active) e;
   looks = λ explores w v e. e;
-  begins = λ todo w v e. subst (λ x. AreAlike limits (BothAlike (λ (a b : World D). a ≡ b)) (begins todo w) (begins todo x)) e (alike_self limits (BothAlike (λ (a b : World D). a ≡ b)) same_both (begins todo w));
-  waits = λ b n w v e. subst (λ x. AreAlike limits (BothAlike (λ (a b : World D). a ≡ b)) (enters_wait b n w) (enters_wait b n x)) e (alike_self limits (BothAlike (λ (a b : World D). a ≡ b)) same_both (enters_wait b n w));
+  begins = λ explores todo w v e. subst (λ x. AreAlike limits (BothAlike (λ (a b : World D). a ≡ b)) (begins todo w) (begins todo x)) e (alike_self limits (BothAlike (λ (a b : World D). a ≡ b)) same_both (begins todo w));
+  waits = λ explores b n w v e. subst (λ x. AreAlike limits (BothAlike (λ (a b : World D). a ≡ b)) (enters_wait b n w) (enters_wait b n x)) e (alike_self limits (BothAlike (λ (a b : World D). a ≡ b)) same_both (enters_wait b n w));
   resumes = λ explores t w v e. subst (λ x. AreAlike limits (BothAlike (λ (a b : World D). a ≡ b)) (resumes explores t w) (resumes explores t x)) e (alike_self limits (BothAlike (λ (a b : World D). a ≡ b)) same_both (resumes explores t w));
   ends = λ explores w v e. subst (λ x. EndsAlike limits (end_alone w) (end_alone x)) e (ended_by (check_leak (first_leak w.objects)) (takes_result 0 w) limits);
   all_ended = λ explores w v e. ap all_ended e;
@@ -154,6 +154,91 @@ same_options standings a b = go (is_able (slice_get standings a)) (is_able (slic
     go false true e f = least_default standings b f (position_from is_yielding 0 standings) ∙ sym (able_default standings b f)
     go false false e f = refl
 
+-- ---- nor on how often threads have yielded
+
+-- each thread can do the same
+abbrev pub SameAbilities : List (Ability × ℕ) → List (Ability × ℕ) → Type 0
+SameAbilities [] [] = Unit {0}
+SameAbilities [] (y ∷ ys) = ⊥
+SameAbilities (x ∷ xs) [] = ⊥
+SameAbilities (x ∷ xs) (y ∷ ys) = (x.0 ≡ y.0) × SameAbilities xs ys
+
+same_map : (xs ys : List (Ability × ℕ)) → SameAbilities xs ys → map ability_in xs ≡ map ability_in ys
+same_map [] [] h = refl
+same_map [] (y ∷ ys) h = absurd h
+same_map (x ∷ xs) [] h = absurd h
+same_map (x ∷ xs) (y ∷ ys) h = ap₂ (λ (a : Ability) (l : List Ability). a ∷ l) h.0 (same_map xs ys h.1)
+
+abbrev able_of : Ability → Bool
+able_of Able = true
+able_of Yielding = false
+able_of Unable = false
+
+abbrev yielding_of : Ability → Bool
+yielding_of Able = false
+yielding_of Yielding = true
+yielding_of Unable = false
+
+able_is : (x : Ability × ℕ) → is_able (Some x) ≡ able_of x.0
+able_is (Able, yields) = refl
+able_is (Yielding, yields) = refl
+able_is (Unable, yields) = refl
+
+yielding_is : (x : Ability × ℕ) → is_yielding x ≡ yielding_of x.0
+yielding_is (Able, yields) = refl
+yielding_is (Yielding, yields) = refl
+yielding_is (Unable, yields) = refl
+
+able_same : (xs ys : List (Ability × ℕ)) → SameAbilities xs ys → (t : ℕ) → is_able (slice_get xs t) ≡ is_able (slice_get ys t)
+able_same [] [] h t = refl
+able_same [] (y ∷ ys) h t = absurd h
+able_same (x ∷ xs) [] h t = absurd h
+able_same (x ∷ xs) (y ∷ ys) h zero = able_is x ∙ ap able_of h.0 ∙ sym (able_is y)
+able_same (x ∷ xs) (y ∷ ys) h (suc t) = able_same xs ys h.1 t
+
+position_same : (xs ys : List (Ability × ℕ)) → SameAbilities xs ys → (t : ℕ) → position_from is_yielding t xs ≡ position_from is_yielding t ys
+position_same [] [] h t = refl
+position_same [] (y ∷ ys) h t = absurd h
+position_same (x ∷ xs) [] h t = absurd h
+position_same (x ∷ xs) (y ∷ ys) h t =
+    ap₂ (λ (b : Bool) (o : Option ℕ). cond b (Some t) o) (yielding_is x ∙ ap yielding_of h.0 ∙ sym (yielding_is y)) (position_same xs ys h.1 (suc t))
+
+least_able : (standings : List (Ability × ℕ)) (k : ℕ) → fewest None 0 standings ≡ Some k → is_able (slice_get standings k) ≡ true
+least_able standings k e = by (fewest_able None 0 standings k e)
+  where
+    by : ⊥ ⊎ IsFrom 0 standings k → is_able (slice_get standings k) ≡ true
+    by (inl f) = absurd f
+    by (inr (j, i, g)) = let same : j ≡ k = omega (arith, i) in subst (λ x. is_able (slice_get standings x) ≡ true) same g
+
+pub options_same : (xs ys : List (Ability × ℕ)) → SameAbilities xs ys → (a : ℕ) → options_by (default_thread a xs) xs ≡ options_by (default_thread a ys) ys
+options_same xs ys h a = go (is_able (slice_get xs a)) (is_able (slice_get ys a)) refl refl
+  where
+    all : able_threads 0 (map ability_in xs) ≡ able_threads 0 (map ability_in ys)
+    all = ap (able_threads 0) (same_map xs ys h)
+
+    by : (o p : Option ℕ) → fewest None 0 xs ≡ o → fewest None 0 ys ≡ p
+        → options_by (or_else o (position_from is_yielding 0 xs)) xs ≡ options_by (or_else p (position_from is_yielding 0 ys)) ys
+    by None None e f = ap₂ (λ (o : Option ℕ) (l : List Ability). thread_options o (with_able o l)) (position_same xs ys h 0) (same_map xs ys h)
+    by None (Some j) e f = let some = some_fewest None 0 xs j (able_same xs ys h j ∙ least_able ys j f) in absurd (cc (some.1, e))
+    by (Some k) None e f = let some = some_fewest None 0 ys k (sym (able_same xs ys h k) ∙ least_able xs k e) in absurd (cc (some.1, f))
+    by (Some k) (Some j) e f = able_default xs k (least_able xs k e) ∙ all ∙ sym (able_default ys j (least_able ys j f))
+
+    go : (x y : Bool) → is_able (slice_get xs a) ≡ x → is_able (slice_get ys a) ≡ y
+        → options_by (cond x (Some a) (or_else (fewest None 0 xs) (position_from is_yielding 0 xs))) xs ≡ options_by (cond y (Some a) (or_else (fewest None 0 ys) (position_from is_yielding 0 ys))) ys
+    go true true e f = able_default xs a e ∙ all ∙ sym (able_default ys a f)
+    go true false e f = absurd (cc (e, f, able_same xs ys h a))
+    go false true e f = absurd (cc (e, f, able_same xs ys h a))
+    go false false e f = by (fewest None 0 xs) (fewest None 0 ys) refl refl
+
+module _ {D : Type 0} where
+  standing_same : (a b : ℕ) (o : Option (Thread D)) → (standing_of a o).0 ≡ (standing_of b o).0
+  standing_same a b None = refl
+  standing_same a b (Some thread) = refl
+
+  pub standings_same : (yields others : List ℕ) (threads : List (Thread D)) (numbers : List ℕ) → SameAbilities (map (standing_at yields threads) numbers) (map (standing_at others threads) numbers)
+  standings_same yields others threads [] = tt
+  standings_same yields others threads (t ∷ rest) = (standing_same (slice_index yields t) (slice_index others t) (slice_get threads t), standings_same yields others threads rest)
+
 -- ---- without whose turn it is
 
 module _ {D : Type 0} where
@@ -191,13 +276,13 @@ module _ {D : Type 0} where
   options_without : (w : World D) → (made_of (which_thread true (offers (without_active w)) [])).options ≡ (made_of (which_thread true (offers w) [])).options
   options_without w = same_options (standings w) 0 w.active
 
-module _ {D K : Type 0} (limits : FailureKind → Bool) (look : Bool → World D → K) (Alike : World D → World D → Type 0) (tells : TellsFuture limits look Alike) (h : (w v : World D) → Alike w v → Alike (without_active w) (without_active v)) where
-  looks_so : (explores : Bool) (w v : World D) → Alike w v → look explores (without_turn explores w) ≡ look explores (without_turn explores v)
-  looks_so true w v a = tells.looks true (without_active w) (without_active v) (h w v a)
+module _ {D K : Type 0} (limits : FailureKind → Bool) (look : Bool → World D → K) (Alike : Bool → World D → World D → Type 0) (tells : TellsFuture limits look Alike) (h : (explores : Bool) (w v : World D) → Alike explores w v → Alike explores (without_active w) (without_active v)) where
+  looks_so : (explores : Bool) (w v : World D) → Alike explores w v → look explores (without_turn explores w) ≡ look explores (without_turn explores v)
+  looks_so true w v a = tells.looks true (without_active w) (without_active v) (h true w v a)
   looks_so false w v a = tells.looks false w v a
 
   resumes_so : (explores : Bool) (t : ℕ) (w v : World D) → look explores (without_turn explores w) ≡ look explores (without_turn explores v)
-      → AreAlike limits (BothAlike Alike) (resumes explores t w) (resumes explores t v)
+      → AreAlike limits (BothAlike (Alike explores)) (resumes explores t w) (resumes explores t v)
   resumes_so true t w v e = tells.resumes true t (without_active w) (without_active v) e
   resumes_so false t w v e = tells.resumes false t w v e
 

@@ -1,5 +1,5 @@
 -- What is seen of points tells their moves, so that states of which the same is seen have equal futures.
-use Rattle.std.proofs.Common.{◌≡◌, ℕ, Bool, true, List, [], ◌++◌, Option, Some, Result, Ok, Err, refl, ap, ◌∙◌, inl, inr, subst}
+use Rattle.std.proofs.Common.{◌≡◌, ℕ, Bool, true, false, List, [], ◌++◌, Option, Some, Result, Ok, Err, refl, ap, ◌∙◌, inl, inr, subst}
 use Rattle.std.specs.Prelude.{◌⊎◌}
 use Rattle.loom_views.specs.Sight.{Sight as SightOfPoints, seen}
 use Rattle.loom_views.specs.Views.{Accessed, Points}
@@ -7,16 +7,17 @@ use Rattle.loom_views.specs.Laws.Sight.{RaisesAlike as RaiseAlike, MovesAlike as
 use Rattle.loom_views.proofs.Sight.Tells.{sight_law}
 use Rattle.loom_views.specs.declared.rt.failure.FailureKind.{FailureKind}
 use Rattle.loom_views.specs.declared.rt.failure.FailureKind.TheVariants.{TooManyVersions}
+use Rattle.loom_objects.specs.Operation.Switching.{NeverSwitches}
 use Rattle.loom_objects.specs.Tree.Tree.{came}
 use Rattle.loom_objects.specs.World.{World}
-use Rattle.loom_engine.specs.Covering.Points.{AccessesAlike, MovesAlike, SlotsAlike, Sight, sight}
+use Rattle.loom_engine.specs.Covering.Points.{AccessesAlike, MovesAlike, SlotsAlike, Sight, sight, without_yields}
 use Rattle.loom_engine.specs.Covering.Seen.{without_active}
-use Rattle.loom_engine.specs.Covering.Sight.{BodyEndsLaw, SightMovesLaw, SeenBodyLaw, seen_at}
+use Rattle.loom_engine.specs.Covering.Sight.{BodyEndsLaw, IsKnown, SightMovesLaw, SeenBodyLaw, seen_by}
 use Rattle.loom_engine.specs.Covering.Sound.{IsSound}
 use Rattle.loom_engine.specs.Covering.States.{AreLimits, State, TellsFuture, LooksSame, state_after}
 use Rattle.loom_engine.specs.Covering.World.{World as BodyWorld, IsCalled, world_of}
-use Rattle.loom_engine.specs.Covering.Covered.{Remembers}
 use Rattle.loom_engine.specs.Covering.Cut.{Checks}
+use Rattle.loom_engine.specs.Covering.Covered.{Covers, Remembers}
 use Rattle.loom_engine.specs.Covering.Ways.{CanEnd, HaveWays}
 use Rattle.loom_engine.specs.Runs.Body.{Meaning, runs}
 use Rattle.loom_engine.specs.Trees.Machines.{IsMarking}
@@ -25,12 +26,13 @@ use Rattle.loom_engine.specs.Walk.Driven.{IsOneOf}
 use Rattle.loom_engine.specs.Walk.Path.{Stored, node_at}
 use Rattle.loom_objects.specs.declared.choice.Choice.{Choice}
 use Rattle.loom_engine.proofs.Covering.Covered.{node_called}
-use Rattle.loom_engine.proofs.Covering.Cut.{remembers}
+use Rattle.loom_engine.proofs.Covering.Cut.{check_law, remembers}
 use Rattle.loom_engine.specs.Covering.Lost.{AreLost}
 use Rattle.loom_engine.proofs.Covering.Lost.{never_ends}
-use Rattle.loom_engine.proofs.Covering.Points.{points_law}
+use Rattle.loom_engine.proofs.Covering.Points.{points_law, yields_law}
 use Rattle.loom_engine.proofs.Covering.Seen.{alike_self, turn_law}
-use Rattle.loom_engine.proofs.Covering.States.{covered_body_law, states_law}
+use Rattle.loom_engine.proofs.Covering.States.{states_law}
+use Rattle.loom_engine.proofs.Covering.Unswitched.{never_switches, runs_same, states_same, unswitched}
 use Rattle.loom_engine.proofs.Covering.Ways.{can_end_law}
 use Rattle.loom_engine.proofs.Covering.Worlds.{world_ends}
 use Rattle.loom_engine.proofs.Runs.Bodies.{run_tree_law}
@@ -95,59 +97,96 @@ module _ {D : Type 0} where
   turnless s = record { rest = without_active s.rest; points = s.points }
 
 module _ {D : Type 0} (limits : FailureKind → Bool) (are : AreLimits limits) where
-  seen_tells : TellsFuture limits seen_at (LooksSame (sight {D = D} seen))
+  seen_tells : TellsFuture limits (seen_by false) (LooksSame (λ explores (w : World D). sight seen w))
   unfolding turnless
   seen_tells =
-      let tells : TellsFuture limits (λ explores (w : World D). sight seen w) (LooksSame (sight {D = D} seen)) = points_law limits seen are.steps (sight_moves_law limits are.versions) in
-      turn_law limits (λ explores (w : World D). sight seen w) (sight {D = D} seen) tells (λ w v e. ap turnless e)
+      let tells : TellsFuture limits (λ explores (w : World D). sight seen w) (LooksSame (λ explores (w : World D). sight seen w)) = points_law limits seen are.steps (sight_moves_law limits are.versions) in
+      turn_law limits (λ explores (w : World D). sight seen w) (λ explores (w : World D). sight seen w) tells (λ explores w v e. ap turnless e)
 
-pub seen_body_law : {D S : Type 0} → SeenBodyLaw D S
-seen_body_law {D} {S} limits next explores max_threads max_steps steps_too room adds body left given are marking checks =
-    covered_body_law limits seen_at (sight {D = D} seen) next explores max_threads max_steps steps_too room adds body left given are (seen_tells limits are) refl marking checks
+-- what is seen without how often threads have yielded tells the future of a body that never switches
+module _ {D : Type 0} (limits : FailureKind → Bool) (are : AreLimits limits) where
+  unyielding_tells : TellsFuture limits (seen_by true) (LooksSame (λ explores (w : World D). sight seen (without_yields explores w)))
+  unfolding turnless
+  unyielding_tells =
+      let tells : TellsFuture limits (λ explores (w : World D). sight seen (without_yields explores w)) (LooksSame (λ explores (w : World D). sight seen (without_yields explores w))) = yields_law limits seen are.steps (sight_moves_law limits are.versions) in
+      turn_law limits (λ explores (w : World D). sight seen (without_yields explores w)) (λ explores (w : World D). sight seen (without_yields explores w)) tells (λ explores w v e. ap turnless e)
 
 module _ {D S : Type 0} (next : Meaning D S) (explores : Bool) (max_threads : ℕ) (body : S) where
   abbrev world : ℕ → BodyWorld D
   world steps = world_of (runs next explores max_threads steps body)
 
-  abbrev key : ℕ → List Choice → Option (State S (Sight D (SightOfPoints ⊎ Points))) × List Choice
-  key steps = state_after seen_at next explores max_threads steps body
+  abbrev Sound : (FailureKind → Bool) → (ℕ → BodyWorld D) → (ℕ → List Choice → Option (State S (Sight D (SightOfPoints ⊎ Points))) × List Choice) → ℕ → ℕ → Type 0
+  Sound limits worlds keys one two = IsSound limits (worlds one) (worlds two) (keys one) (keys two)
 
-  states_sound : (limits : FailureKind → Bool) → AreLimits limits → (one two : ℕ) → IsSound limits (world one) (world two) (key one) (key two)
-  states_sound limits are one two = states_law limits seen_at (sight {D = D} seen) next explores max_threads one two body are (seen_tells limits are) refl
+  abbrev key : Bool → ℕ → List Choice → Option (State S (Sight D (SightOfPoints ⊎ Points))) × List Choice
+  key never steps = state_after (seen_by never) next explores max_threads steps body
 
-  module _ (max_steps room : ℕ) (adds : Marking) (left : List (List Stored)) (given : List (List Choice × D)) (marking : IsMarking adds) (checks : Checks room adds (runs next explores max_threads max_steps body) (key max_steps) left [] left given) where
-    remembered : Remembers (world max_steps) (key max_steps) left given
-    remembered = remembers room adds (runs next explores max_threads max_steps body) (run_tree_law next explores max_threads max_steps body).sound marking (key max_steps) left left given checks refl
+  module _ (limits : FailureKind → Bool) (are : AreLimits limits) (one two : ℕ) where
+    -- of the body that fails in place of each switch
+    failing_sound : Sound limits (λ steps. world_of (runs (unswitched next) explores max_threads steps body)) (λ steps. state_after (seen_by true) (unswitched next) explores max_threads steps body) one two
+    failing_sound =
+        states_law limits (seen_by true) (λ x (w : World D). sight seen (without_yields x w)) (unswitched next) explores max_threads one two body are (unyielding_tells limits are)
+        (λ state answer. inr (never_switches next state answer)) (λ x. refl)
 
-    ends_so : (limits : FailureKind → Bool) → AreLimits limits → HaveWays (world max_steps) (key max_steps) left given → CanEnd limits world
+    -- so of one that never switches
+    unyielding_sound : NeverSwitches next body → Sound limits world (key true) one two
+    unyielding_sound never =
+        subst (λ t. IsSound limits (world_of t) (world two) (key true one) (key true two)) (runs_same next body never explores max_threads one)
+        (subst (λ t. IsSound limits (world_of (runs (unswitched next) explores max_threads one body)) (world_of t) (key true one) (key true two)) (runs_same next body never explores max_threads two)
+        (subst (λ k. IsSound limits (world_of (runs (unswitched next) explores max_threads one body)) (world_of (runs (unswitched next) explores max_threads two body)) k (key true two)) (states_same next body never explores max_threads one (seen_by true))
+        (subst (λ k. IsSound limits (world_of (runs (unswitched next) explores max_threads one body)) (world_of (runs (unswitched next) explores max_threads two body)) (state_after (seen_by true) (unswitched next) explores max_threads one body) k)
+        (states_same next body never explores max_threads two (seen_by true)) failing_sound)))
+
+    states_sound : (never : Bool) → IsKnown never next body → Sound limits world (key never) one two
+    states_sound true known = unyielding_sound (known refl)
+    states_sound false known =
+        states_law limits (seen_by false) (λ x (w : World D). sight seen w) next explores max_threads one two body are (seen_tells limits are) (λ state answer. inl (λ x to w v e. e)) (λ x. refl)
+
+  module _ (never : Bool) (known : IsKnown never next body) (max_steps room : ℕ) (adds : Marking) (left : List (List Stored)) (given : List (List Choice × D)) (marking : IsMarking adds)
+      (checks : Checks room adds (runs next explores max_threads max_steps body) (key never max_steps) left [] left given) where
+    covered_so : (limits : FailureKind → Bool) → AreLimits limits → (steps_too : ℕ) → Covers limits (world max_steps) (world steps_too) given
+    covered_so limits are steps_too =
+        check_law limits (world steps_too) room adds (runs next explores max_threads max_steps body) (key never max_steps) (key never steps_too) left given (run_tree_law next explores max_threads max_steps body).sound marking
+        (world_ends (runs next explores max_threads steps_too body)) (states_sound limits are max_steps steps_too never known) checks
+
+    remembered : Remembers (world max_steps) (key never max_steps) left given
+    remembered = remembers room adds (runs next explores max_threads max_steps body) (run_tree_law next explores max_threads max_steps body).sound marking (key never max_steps) left left given checks refl
+
+    ends_so : (limits : FailureKind → Bool) → AreLimits limits → HaveWays (world max_steps) (key never max_steps) left given → CanEnd limits world
     ends_so limits are have =
-        can_end_law limits (world max_steps) world (key max_steps) key left given (world_ends (runs next explores max_threads max_steps body)) (λ steps. world_ends (runs next explores max_threads steps body))
-        (λ steps. states_sound limits are max_steps steps) (λ one two. states_sound limits are one two) remembered have
+        can_end_law limits (world max_steps) world (key never max_steps) (key never) left given (world_ends (runs next explores max_threads max_steps body)) (λ steps. world_ends (runs next explores max_threads steps body))
+        (λ steps. states_sound limits are max_steps steps never known) (λ one two. states_sound limits are one two never known) remembered have
 
     called_so : (q : List Stored) (c : List Choice) (n : Stored) → IsOneOf q left → node_at q c ≡ Some n → IsCalled (world max_steps) c
     called_so q c n i at =
-        node_called (λ kind. true) (world max_steps) (world max_steps) (key max_steps) (key max_steps) left given (world_ends (runs next explores max_threads max_steps body)) (world_ends (runs next explores max_threads max_steps body))
-        (states_sound (λ kind. true) (record { steps = refl; versions = refl }) max_steps max_steps) remembered q i c n at
+        node_called (λ kind. true) (world max_steps) (world max_steps) (key never max_steps) (key never max_steps) left given (world_ends (runs next explores max_threads max_steps body)) (world_ends (runs next explores max_threads max_steps body))
+        (states_sound (λ kind. true) (record { steps = refl; versions = refl }) max_steps max_steps never known) remembered q i c n at
 
-    module _ (IsLost : List Choice → Type 0) (lost : AreLost (key max_steps) left IsLost) where
+    module _ (IsLost : List Choice → Type 0) (lost : AreLost (key never max_steps) left IsLost) where
       lost_so : (steps_too : ℕ) (c more : List Choice) (value : D) → IsLost c → IsCalled (world steps_too) (c ++ more) → (world steps_too).outcome (c ++ more) ≡ Some (Ok value) → ⊥
       lost_so steps_too c more value is called came =
-          never_ends (λ kind. true) (world max_steps) (world steps_too) (key max_steps) (key steps_too) left given (world_ends (runs next explores max_threads max_steps body)) (world_ends (runs next explores max_threads steps_too body))
-          (states_sound (λ kind. true) (record { steps = refl; versions = refl }) max_steps steps_too) remembered IsLost lost c more value is called came
+          never_ends (λ kind. true) (world max_steps) (world steps_too) (key never max_steps) (key never steps_too) left given (world_ends (runs next explores max_threads max_steps body)) (world_ends (runs next explores max_threads steps_too body))
+          (states_sound (λ kind. true) (record { steps = refl; versions = refl }) max_steps steps_too never known) remembered IsLost lost c more value is called came
+
+pub seen_body_law : {D S : Type 0} → SeenBodyLaw D S
+seen_body_law never limits next explores max_threads max_steps steps_too room adds body left given known are marking checks =
+    covered_so next explores max_threads body never known max_steps room adds left given marking checks limits are steps_too
 
 pub body_ends_law : {D S : Type 0} → BodyEndsLaw D S
-body_ends_law limits next explores max_threads max_steps room adds body left given are marking checks have = ends_so next explores max_threads body max_steps room adds left given marking checks limits are have
+body_ends_law never limits next explores max_threads max_steps room adds body left given known are marking checks have =
+    ends_so next explores max_threads body never known max_steps room adds left given marking checks limits are have
 
 -- a node of such a check's runs comes after choices that a run can make
-pub body_called : {D S : Type 0} (next : Meaning D S) (explores : Bool) (max_threads max_steps room : ℕ) (adds : Marking) (body : S) (left : List (List Stored)) (given : List (List Choice × D)) → IsMarking adds
-    → Checks room adds (runs next explores max_threads max_steps body) (state_after seen_at next explores max_threads max_steps body) left [] left given
+pub body_called : {D S : Type 0} (never : Bool) (next : Meaning D S) (explores : Bool) (max_threads max_steps room : ℕ) (adds : Marking) (body : S) (left : List (List Stored)) (given : List (List Choice × D)) → IsKnown never next body → IsMarking adds
+    → Checks room adds (runs next explores max_threads max_steps body) (state_after (seen_by never) next explores max_threads max_steps body) left [] left given
     → (q : List Stored) (c : List Choice) (n : Stored) → IsOneOf q left → node_at q c ≡ Some n → IsCalled (world_of (runs next explores max_threads max_steps body)) c
-body_called next explores max_threads max_steps room adds body left given marking checks q c n i at = called_so next explores max_threads body max_steps room adds left given marking checks q c n i at
+body_called never next explores max_threads max_steps room adds body left given known marking checks q c n i at =
+    called_so next explores max_threads body never known max_steps room adds left given marking checks q c n i at
 
 -- no run of the body ends that goes on from choices that are lost
-pub body_lost : {D S : Type 0} (next : Meaning D S) (explores : Bool) (max_threads max_steps room : ℕ) (adds : Marking) (body : S) (left : List (List Stored)) (given : List (List Choice × D)) → IsMarking adds
-    → Checks room adds (runs next explores max_threads max_steps body) (state_after seen_at next explores max_threads max_steps body) left [] left given
-    → (IsLost : List Choice → Type 0) → AreLost (state_after seen_at next explores max_threads max_steps body) left IsLost → (steps_too : ℕ) (c more : List Choice) (value : D) → IsLost c
+pub body_lost : {D S : Type 0} (never : Bool) (next : Meaning D S) (explores : Bool) (max_threads max_steps room : ℕ) (adds : Marking) (body : S) (left : List (List Stored)) (given : List (List Choice × D)) → IsKnown never next body → IsMarking adds
+    → Checks room adds (runs next explores max_threads max_steps body) (state_after (seen_by never) next explores max_threads max_steps body) left [] left given
+    → (IsLost : List Choice → Type 0) → AreLost (state_after (seen_by never) next explores max_threads max_steps body) left IsLost → (steps_too : ℕ) (c more : List Choice) (value : D) → IsLost c
     → IsCalled (world_of (runs next explores max_threads steps_too body)) (c ++ more) → (world_of (runs next explores max_threads steps_too body)).outcome (c ++ more) ≡ Some (Ok value) → ⊥
-body_lost next explores max_threads max_steps room adds body left given marking checks IsLost lost steps_too c more value is called came =
-    lost_so next explores max_threads body max_steps room adds left given marking checks IsLost lost steps_too c more value is called came
+body_lost never next explores max_threads max_steps room adds body left given known marking checks IsLost lost steps_too c more value is called came =
+    lost_so next explores max_threads body never known max_steps room adds left given marking checks IsLost lost steps_too c more value is called came

@@ -3,6 +3,7 @@ use Rattle.std.proofs.Common.{◌≡◌, ◌⊎◌, ℕ, suc, Bool, false, List,
 use Rattle.std.specs.Option.{option_map}
 use Rattle.loom_objects.specs.declared.choice.Choice.{Choice}
 use Rattle.loom_objects.specs.declared.operation.Reply.TheVariants as reply
+use Rattle.loom_objects.specs.Exploring.{initially, is_on}
 use Rattle.loom_objects.specs.Tree.Question.{Made, Question, Among, made_of}
 use Rattle.loom_objects.specs.Tree.Tree.{Tree, Gives, Fails, Closes, Asks}
 use Rattle.loom_objects.specs.World.{World as State_of_machine}
@@ -13,7 +14,7 @@ use Rattle.loom_engine.specs.Covering.World.{World, IsCalled, IsStopped, world_o
 use Rattle.loom_engine.specs.Covering.Sound.{MeetsSame, Unless, IsSound}
 use Rattle.loom_engine.specs.Covering.Alike.{AreAlike}
 use Rattle.loom_engine.specs.Covering.Moments.{Moment, Next, RunEnds, Stands, Stand, at_schedule, by_choice, first_part, first_stand, settled, stand_after}
-use Rattle.loom_engine.specs.Covering.States.{State, state_of, seen_in, state_after, TellsFuture, AreLimits, LooksSame, StatesLaw, CoveredBodyLaw}
+use Rattle.loom_engine.specs.Covering.States.{State, state_of, seen_in, state_after, TellsFuture, AreLimits, KeepsAlike, LooksSame, StatesLaw, CoveredBodyLaw}
 use Rattle.loom_engine.proofs.Covering.Alike.{Leads, leads_alike}
 use Rattle.loom_engine.proofs.Covering.Cut.{check_law}
 use Rattle.loom_engine.proofs.Covering.Schedules.{NextAlike, at_schedule_alike, to_schedule_alike}
@@ -26,7 +27,7 @@ use Rattle.loom_engine.proofs.Runs.Bodies.{run_tree_law}
 abbrev pub StopsAtOnce : {A : Type 0} → (FailureKind → Bool) → Tree A → Type 0
 StopsAtOnce limits t = IsStopped (world_of t) limits []
 
-module _ {D S K : Type 0} (limits : FailureKind → Bool) (are : AreLimits limits) (look : Bool → State_of_machine D → K) (Alike : State_of_machine D → State_of_machine D → Type 0) (tells : TellsFuture limits look Alike) (next : Meaning D S) where
+module _ {D S K : Type 0} (limits : FailureKind → Bool) (are : AreLimits limits) (look : Bool → State_of_machine D → K) (Alike : Bool → State_of_machine D → State_of_machine D → Type 0) (tells : TellsFuture limits look Alike) (next : Meaning D S) (keeps : KeepsAlike next Alike) where
   abbrev Segments : Tree (Next D S) → Tree (Next D S) → Type 0
   Segments t u = AreAlike limits (NextAlike limits are look Alike tells) t u
 
@@ -41,7 +42,7 @@ module _ {D S K : Type 0} (limits : FailureKind → Bool) (are : AreLimits limit
   SameAtOnce t u = AtOnce t u (MeetsSame ((world_of t).node []) ((world_of u).node []) × ((world_of t).outcome [] ≡ (world_of u).outcome []))
 
   asked_at_once : (m n : Moment D S) → state_of look m ≡ state_of look n → SameAtOnce (From (at_schedule next m)) (From (at_schedule next n))
-  asked_at_once m n e = inr (inr ((at_schedule_alike limits are look Alike tells next m n e).0, refl))
+  asked_at_once m n e = inr (inr ((at_schedule_alike limits are look Alike tells next keeps m n e).0, refl))
 
   closed_at_once : (t u : Tree D) → SameAtOnce t u → SameAtOnce (Closes t) (Closes u)
   closed_at_once t u (inl s) = inl s
@@ -110,7 +111,7 @@ module _ {D S K : Type 0} (limits : FailureKind → Bool) (are : AreLimits limit
   parts_alike first second h None None e = h
   parts_alike first second h None (Some n) e = absurd (cc e)
   parts_alike first second h (Some m) None e = absurd (cc e)
-  parts_alike first second h (Some m) (Some n) e = at_schedule_alike limits are look Alike tells next m n (one_state (state_of look m) (state_of look n) e)
+  parts_alike first second h (Some m) (Some n) e = at_schedule_alike limits are look Alike tells next keeps m n (one_state (state_of look m) (state_of look n) e)
 
   -- where two runs stand in the same state, what is ahead is alike
   ahead_alike : (first second : Tree (Next D S)) → Segments first second → (s r : Stand D S) → IsStand next first s → IsStand next second r → seen_in look s ≡ seen_in look r → Segments s.ahead r.ahead
@@ -221,19 +222,19 @@ module _ {D S : Type 0} (next : Meaning D S) (explores : Bool) (max_threads max_
       ∙ sym (settled_runs next None [] (first_part next explores max_threads max_steps body))
 
 pub states_law : {D S K F : Type 0} → StatesLaw D S K F
-states_law limits look between next explores max_threads max_steps steps_too body are tells alike =
+states_law limits look between next explores max_threads max_steps steps_too body are tells keeps alike =
     subst (λ t. IsSound limits (world_of t) (world_of (runs next explores max_threads steps_too body)) (state_after look next explores max_threads max_steps body) (state_after look next explores max_threads steps_too body))
     (sym (from_start next explores max_threads max_steps body))
     (subst (λ t. IsSound limits (world_of (on_from next (first_stand next explores max_threads max_steps body).ahead)) (world_of t) (state_after look next explores max_threads max_steps body) (state_after look next explores max_threads steps_too body))
     (sym (from_start next explores max_threads steps_too body))
-    (sound_so limits are look (LooksSame between) tells next (first_part next explores max_threads max_steps body) (first_part next explores max_threads steps_too body) begin))
+    (sound_so limits are look (LooksSame between) tells next keeps (first_part next explores max_threads max_steps body) (first_part next explores max_threads steps_too body) begin))
   where
     begin : AreAlike limits (NextAlike limits are look (LooksSame between) tells) (first_part next explores max_threads max_steps body) (first_part next explores max_threads steps_too body)
-    begin = to_schedule_alike limits are look (LooksSame between) tells next (suc max_steps) (suc steps_too) (body ∷ []) (opening explores max_threads max_steps) (opening explores max_threads steps_too) 0 reply.Start
-        (record { world = alike; exploring = refl; ordered = refl })
+    begin = to_schedule_alike limits are look (LooksSame between) tells next keeps (suc max_steps) (suc steps_too) (body ∷ []) (opening explores max_threads max_steps) (opening explores max_threads steps_too) 0 reply.Start
+        (record { world = alike (is_on (initially explores)); exploring = refl; ordered = refl })
 
 pub covered_body_law : {D S K F : Type 0} → CoveredBodyLaw D S K F
-covered_body_law limits look between next explores max_threads max_steps steps_too room adds body left given are tells alike fair checks =
+covered_body_law limits look between next explores max_threads max_steps steps_too room adds body left given are tells keeps alike fair checks =
     check_law limits (world_of (runs next explores max_threads steps_too body)) room adds (runs next explores max_threads max_steps body) (state_after look next explores max_threads max_steps body)
     (state_after look next explores max_threads steps_too body) left given (run_tree_law next explores max_threads max_steps body).sound fair (world_ends (runs next explores max_threads steps_too body))
-    (states_law limits look between next explores max_threads max_steps steps_too body are tells alike) checks
+    (states_law limits look between next explores max_threads max_steps steps_too body are tells keeps alike) checks

@@ -37,7 +37,7 @@ use Rattle.loom_engine.specs.Covering.Cut.{cut, passed}
 use Rattle.loom_engine.specs.Covering.Kept.{AreKeptAfter, GrowsFrom, IsKeptOf, Key, Noted, NotesAs, state_in}
 use Rattle.loom_engine.specs.Covering.Moments.{Moment, Next, Stand, first_stand, handing, settled, to_schedule}
 use Rattle.loom_engine.specs.Covering.Parts.{IsEnded, LeadsOn, StayThere, TurnsOn, on_begun, on_turn}
-use Rattle.loom_engine.specs.Covering.Sight.{seen_at}
+use Rattle.loom_engine.specs.Covering.Sight.{seen_by}
 use Rattle.loom_engine.specs.Covering.States.{seen_in, state_of}
 use Rattle.loom_engine.specs.Covering.Table.{HasState, IsAlong}
 use Rattle.loom_engine.specs.Covering.UnderWay.{HasNode, IsLed, after_begun, never, onward}
@@ -60,12 +60,12 @@ is_alone x y (zero, l, e) = sym e
 is_alone x y (suc k, l, e) = absurd (omega (arith, l))
 
 -- what is mapped has the values of the items, and of nothing else
-in_map : {X Y : Type 0} (f : X → Y) (xs : List X) (x : X) → Contains xs x → Contains (map f xs) (f x)
+pub in_map : {X Y : Type 0} (f : X → Y) (xs : List X) (x : X) → Contains xs x → Contains (map f xs) (f x)
 in_map f [] x (k, l, e) = absurd (omega (arith, l))
 in_map f (y ∷ xs) x (zero, l, e) = (0, omega arith, ap f e)
 in_map f (y ∷ xs) x (suc k, l, e) = let z = in_map f xs x (k, omega (arith, l), e) in (suc z.0, omega (arith, z.1), z.2)
 
-mapped : {X Y : Type 0} (f : X → Y) (xs : List X) (y : Y) → Contains (map f xs) y → (x : X) × Contains xs x × (f x ≡ y)
+pub mapped : {X Y : Type 0} (f : X → Y) (xs : List X) (y : Y) → Contains (map f xs) y → (x : X) × Contains xs x × (f x ≡ y)
 mapped f [] y (k, l, e) = absurd (omega (arith, l))
 mapped f (x ∷ xs) y (zero, l, e) = (x, (0, omega arith, refl), e)
 mapped f (x ∷ xs) y (suc k, l, e) = let z = mapped f xs y (k, omega (arith, l), e) in (z.0, (suc z.1.0, omega (arith, z.1.1), z.1.2), z.2)
@@ -126,11 +126,11 @@ still_there (y ∷ xs) x zero a e = e
 still_there (y ∷ xs) x (suc k) a e = still_there xs x k a e
 
 -- one more state, that after these choices
-one_more : {D S : Type 0} (key : List Choice → Key D S) (noted grown : Noted D S) (state : Kept D S) (c : List Choice) → grown.states ≡ noted.states ++ state ∷ [] → grown.led_by ≡ noted.led_by ++ c ∷ []
-    → IsKeptOf state (key c) → AreKeptAfter key noted → AreKeptAfter key grown
-one_more {D} {S} key noted grown state c more led is are = record {
+one_more : {D S : Type 0} (key : List Choice → Key D S) (noted grown : Noted D S) (state : Kept D S) (c : List Choice) → grown.states ≡ noted.states ++ state ∷ [] → grown.led_by ≡ noted.led_by ++ c ∷ [] → grown.never ≡ noted.never
+    → IsKeptOf noted.never state (key c) → AreKeptAfter key noted → AreKeptAfter key grown
+one_more {D} {S} key noted grown state c more led never is are = record {
   counted = ap length led ∙ longer noted.led_by c ∙ ap suc are.counted ∙ sym (longer noted.states state) ∙ ap length (sym more);
-  each = λ k one at. each k one (beside state c noted.states noted.led_by k one are.counted (subst (λ (l : List (Kept D S)). slice_get l k ≡ Some one) more at));
+  each = λ k one at. subst (λ (b : Bool). (d : List Choice) × (slice_get grown.led_by k ≡ Some d) × IsKeptOf b one (key d)) (sym never) (each k one (beside state c noted.states noted.led_by k one are.counted (subst (λ (l : List (Kept D S)). slice_get l k ≡ Some one) more at)));
 }
   where
     longer : {X : Type 0} (xs : List X) (x : X) → length (xs ++ x ∷ []) ≡ suc (length xs)
@@ -138,10 +138,10 @@ one_more {D} {S} key noted grown state c more led is are = record {
     longer (y ∷ xs) x = ap suc (longer xs x)
 
     each : (k : ℕ) (one : Kept D S) → (slice_get noted.states k ≡ Some one) ⊎ ((slice_get (noted.led_by ++ c ∷ []) k ≡ Some c) × (one ≡ state))
-        → (d : List Choice) × (slice_get grown.led_by k ≡ Some d) × IsKeptOf one (key d)
+        → (d : List Choice) × (slice_get grown.led_by k ≡ Some d) × IsKeptOf noted.never one (key d)
     each k one (inl at) =
         let z = are.each k one at in (z.0, subst (λ (l : List (List Choice)). slice_get l k ≡ Some z.0) (sym led) (still_there noted.led_by c k z.0 z.1), z.2)
-    each k one (inr at) = (c, subst (λ (l : List (List Choice)). slice_get l k ≡ Some c) (sym led) at.0, subst (λ (x : Kept D S). IsKeptOf x (key c)) (sym at.1) is)
+    each k one (inr at) = (c, subst (λ (l : List (List Choice)). slice_get l k ≡ Some c) (sym led) at.0, subst (λ (x : Kept D S). IsKeptOf noted.never x (key c)) (sym at.1) is)
 
 module _ {D S : Type 0} (room : ℕ) (adds : Marking) (next : Meaning D S) (explores : Bool) (max_threads max_steps : ℕ) (body : S) (p : List Stored) (old : Noted D S) where
   abbrev tree : Tree D
@@ -192,6 +192,7 @@ module _ {D S : Type 0} (room : ℕ) (adds : Marking) (next : Meaning D S) (expl
   tables_same noted more path after same stay tables = record {
     explained = subst (λ (x : Noted D S). AreKeptAfter key x) (sym same) tables.explained;
     grows = subst (λ (x : Noted D S). GrowsFrom old x) (sym same) tables.grows;
+    never = ap (λ (x : Noted D S). x.never) same ∙ tables.never;
     later = subst (λ (x : Noted D S). AreLater x after) (sym same) (record {
       there = λ k c l at. let z = tables.later.there k c l at in (still path after c stay z.0, z.1);
       ordered = tables.later.ordered;
@@ -203,6 +204,7 @@ module _ {D S : Type 0} (room : ℕ) (adds : Marking) (next : Meaning D S) (expl
   tables_begin are = record {
     explained = are;
     grows = λ k c at. at;
+    never = refl;
     later = record { there = λ k c l at. absurd (let z = within old.led_by k c at in omega (arith, l, z)); ordered = λ k m c d l h at there. absurd (let z = within old.led_by m d there in omega (arith, l, h, z)) };
     known = λ c has. inl has;
   }
@@ -372,10 +374,10 @@ module _ {D S : Type 0} (room : ℕ) (adds : Marking) (next : Meaning D S) (expl
         (nodes_law {A = Turn D × Course D} room adds).first (which_thread (is_on c.exploring) (offers c.world) (unordered_in c)) (λ o. chooses c o >>= further (schedule 999999)) path end came at.way.within (ap (λ (t : Tree (Turn D × Course D)). drive (whole_search room) adds t path) (sym asks) ∙ e)
 
     -- the state at hand
-    pub key_here : key (passed path) ≡ (Some (state_of seen_at (record { bodies = bodies; course = c; more = further_branches; left = left })), [])
-    key_here = ap (seen_in seen_at) at.way.stands
+    pub key_here : key (passed path) ≡ (Some (state_of (seen_by old.never) (record { bodies = bodies; course = c; more = further_branches; left = left })), [])
+    key_here = ap (seen_in (seen_by old.never)) at.way.stands
 
-    pub kept_here : (run : Progress D) (route : Route) (views : Views) → ShowsCourse c run route → IsInOrder run.state.scene.views views → c.exploring ≡ On → IsKeptOf (state_in run bodies views) (key (passed path))
+    pub kept_here : (run : Progress D) (route : Route) (views : Views) → ShowsCourse c run route → IsInOrder run.state.scene.views views → c.exploring ≡ On → IsKeptOf old.never (state_in old.never run bodies views) (key (passed path))
     kept_here run route views shown order explores = record {
       run = run;
       path = route;
@@ -420,12 +422,14 @@ module _ {D S : Type 0} (room : ℕ) (adds : Marking) (next : Meaning D S) (expl
 
       -- a run that has come to a state that was noted
       module _ (noted : Noted D S) (tables : Tables noted path) (run : Progress D) (route : Route) (views : Views) (shown : ShowsCourse c run route) (order : IsInOrder run.state.scene.views views) (is_exploring : c.exploring ≡ On) (number : ℕ)
-          (has : slice_get noted.states number ≡ Some (state_in run bodies views)) where
-        led : (d : List Choice) × (slice_get noted.led_by number ≡ Some d) × IsKeptOf (state_in run bodies views) (key d)
-        led = tables.explained.each number (state_in run bodies views) has
+          (has : slice_get noted.states number ≡ Some (state_in noted.never run bodies views)) where
+        led : (d : List Choice) × (slice_get noted.led_by number ≡ Some d) × IsKeptOf old.never (state_in old.never run bodies views) (key d)
+        led =
+            subst (λ (b : Bool). (d : List Choice) × (slice_get noted.led_by number ≡ Some d) × IsKeptOf b (state_in b run bodies views) (key d)) tables.never
+            (tables.explained.each number (state_in noted.never run bodies views) has)
 
         same_state : key led.0 ≡ key (passed path)
-        same_state = kept_law (state_in run bodies views) (key led.0) (key (passed path)) led.2 (kept_here run route views shown order is_exploring)
+        same_state = kept_law old.never (state_in old.never run bodies views) (key led.0) (key (passed path)) led.2 (kept_here run route views shown order is_exploring)
 
         pub met_along : IsAlong room adds tree key (keys old) p (Ok None) path (keys noted)
         met_along = record {
@@ -445,11 +449,14 @@ module _ {D S : Type 0} (room : ℕ) (adds : Marking) (next : Meaning D S) (expl
 
     -- after the schedule, the state before it is that of a node
     pub tables_noted : (noted grown : Noted D S) (run : Progress D) (route : Route) (views : Views) (came : Turn D × Course D) (end : Trail) → ShowsCourse c run route → IsInOrder run.state.scene.views views → c.exploring ≡ On
-        → length path.nodes ≤ path.position → NotesAs (state_in run bodies views) (passed path) noted grown → drive (whole_search room) adds (schedule further_branches c) path ≡ (Ok came, end) → Tables noted path → Tables grown end
+        → length path.nodes ≤ path.position → NotesAs (state_in noted.never run bodies views) (passed path) noted grown → drive (whole_search room) adds (schedule further_branches c) path ≡ (Ok came, end) → Tables noted path → Tables grown end
     tables_noted noted grown run route views came end shown order explores all (inr same) e tables = tables_same noted grown path end same (stays_on came end e) tables
     tables_noted noted grown run route views came end shown order explores all (inl grows) e tables = record {
-      explained = one_more key noted grown (state_in run bodies views) (passed path) grows.0 grows.1 (kept_here run route views shown order explores) tables.explained;
+      explained =
+          one_more key noted grown (state_in noted.never run bodies views) (passed path) grows.0 grows.1 grows.2
+          (subst (λ (b : Bool). IsKeptOf b (state_in b run bodies views) (key (passed path))) (sym tables.never) (kept_here run route views shown order explores)) tables.explained;
       grows = λ k c at. subst (λ (l : List (List Choice)). slice_get l k ≡ Some c) (sym grows.1) (still_there noted.led_by (passed path) k c (tables.grows k c at));
+      never = grows.2 ∙ tables.never;
       later = record {
         there = λ k c l at. there k c l (at_last noted.led_by (passed path) k c (subst (λ (x : List (List Choice)). slice_get x k ≡ Some c) grows.1 at));
         ordered = λ k m c d l h at to.

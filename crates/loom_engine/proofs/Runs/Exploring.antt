@@ -22,7 +22,7 @@ use Rattle.loom_objects.specs.declared.rt.run.Resumed.TheVariants as resumed
 use Rattle.loom_objects.specs.Rules.Atomic.{reads}
 use Rattle.loom_objects.specs.Rules.Tables.{chosen, counted}
 use Rattle.loom_objects.specs.Rules.Ending.{all_ended}
-use Rattle.loom_objects.specs.Exploring.{is_on}
+use Rattle.loom_objects.specs.Exploring.{is_on, is_switch}
 use Rattle.loom_objects.specs.Rules.Notify.{enters_wait as entered}
 use Rattle.loom_objects.specs.Operation.Plain.{plain, plain_request}
 use Rattle.loom_objects.specs.Tree.Question.{Question, made_of}
@@ -36,7 +36,7 @@ use Rattle.loom_engine.specs.Trees.Exploring.{ExploresTree}
 use Rattle.loom_engine.specs.Runs.Course.{Course, accesses, carried, grown_from, one_passed, used_in, with_order}
 use Rattle.loom_engine.specs.Runs.Machine.{chooses, closes as closes_run, further, further_branches, goes_by, goes_on, passes, schedule, submit, waits}
 use Rattle.loom_engine.specs.Runs.Body.{Meaning, at_turn, play}
-use Rattle.loom_engine.specs.Runs.Sound.{ExploresLaw, is_switch}
+use Rattle.loom_engine.specs.Runs.Sound.{ExploresLaw}
 use Rattle.loom_engine.proofs.Runs.Answering.{Answers}
 use Rattle.loom_engine.proofs.Runs.Events.{Anything}
 use Rattle.loom_engine.proofs.Runs.Replies.{IsNoSwitch, Unswitched, unswitched}
@@ -73,10 +73,10 @@ any_explores (Err kind) = fails kind
 -- ---- operations that are no switch
 
 module _ {D : Type 0} where
-  counted_unswitched : (todo : Request D ⊤) (w : World D) → is_switch todo ≡ false → Answers Unswitched (counted todo w)
+  pub counted_unswitched : (todo : Request D ⊤) (w : World D) → is_switch todo ≡ false → Answers Unswitched (counted todo w)
   counted_unswitched todo w h = unswitched (checks _ TooManySteps) _ (λ u. begins_unswitched todo _ h)
 
-plain_unswitched : {D S : Type 0} (todo : Request D S) → is_switch todo ≡ false → is_switch (plain_request todo) ≡ false
+pub plain_unswitched : {D S : Type 0} (todo : Request D S) → is_switch todo ≡ false → is_switch (plain_request todo) ≡ false
 plain_unswitched (op.Explore todo) h = h
 plain_unswitched _ h = refl
 

@@ -23,7 +23,7 @@ use Rattle.loom_objects.specs.Rules.Tables.{needs_memory, op_begins, takes_effec
 use Rattle.loom_objects.specs.Rules.Thread.{finish}
 use Rattle.loom_objects.specs.World.{World}
 use Rattle.loom_engine.specs.Runs.Histories.{returned_by}
-use Rattle.loom_engine.specs.Runs.Sound.{is_switch}
+use Rattle.loom_objects.specs.Exploring.{is_switch}
 use Rattle.loom_engine.specs.Runs.Stores.{access_in_task}
 use Rattle.loom_engine.proofs.Runs.Answering.{Answers, TellsActive, accesses_tells, by_passing, by_quiet, clones_waker_goes, drains_goes, drops_waker_goes, falls_asleep_passes, registers_goes, takes_waker_goes, told, tries_unwrap_passes, wakes_by_goes}
 use Rattle.loom_engine.proofs.Runs.Kinds.Atomics.{accesses_resuming, atomic_begins_keeping, fence_keeping}

@@ -1,9 +1,10 @@
 -- What has to be seen of points, so that each move of them answers alike.
-use Rattle.std.specs.Prelude.{ℕ, ◌≡◌, Bool, true, List, length, Result}
+use Rattle.std.specs.Prelude.{ℕ, ◌≡◌, Bool, true, false, List, length, Result}
 use Rattle.std.specs.declared.sync.atomic.Ordering.{Ordering}
 use Rattle.loom_views.specs.declared.rt.atomic.reader.Reader.{Reader}
 use Rattle.loom_views.specs.declared.rt.failure.FailureKind.{FailureKind}
 use Rattle.loom_views.specs.declared.rt.failure.FailureKind.TheVariants.{TooManySteps}
+use Rattle.loom_views.specs.Versions.{zeros}
 use Rattle.loom_views.specs.Views.{Accessed, Points, opening, points_after_acquire, points_after_fence, points_after_join, points_after_load, points_after_raise, points_after_read, points_after_release, points_after_spawn, points_after_stamp, points_after_stamp_acquire, points_after_stamp_release, points_after_store, points_after_unsync_load, points_after_update_fail, points_after_update_read, points_after_update_write, points_after_with_mut, points_after_with_mut_end, points_after_write, points_after_yield, points_with_atomic, points_with_cell, points_with_point, points_with_stamp, readable_slots_of}
 use Rattle.loom_objects.specs.Tree.Tree.{came}
 use Rattle.loom_objects.specs.World.{World}
@@ -77,4 +78,18 @@ sight seen w = record { rest = record w { points = opening; steps_left = 0 }; po
 -- moves alone. Too many operations is a limit.
 abbrev pub PointsLaw : Type 0 → Type 0 → Type 0
 PointsLaw D V = (limits : FailureKind → Bool) (seen : Points → V) → limits TooManySteps ≡ true → TellsMoves limits seen
-    → TellsFuture limits (λ explores (w : World D). sight seen w) (LooksSame (sight {D = D} seen))
+    → TellsFuture limits (λ explores (w : World D). sight seen w) (LooksSame (λ explores (w : World D). sight seen w))
+
+-- how often threads have yielded, or nothing of it
+abbrev pub yields_seen : Bool → List ℕ → List ℕ
+yields_seen true yields = zeros
+yields_seen false yields = yields
+
+-- the state without how often threads have yielded, where the search explores: only a default thread depends on it
+abbrev pub without_yields : {D : Type 0} → Bool → World D → World D
+without_yields explores w = record w { yields = yields_seen explores w.yields }
+
+-- How often threads have yielded may be left out where the search explores, of a body that never switches that.
+abbrev pub YieldsLaw : Type 0 → Type 0 → Type 0
+YieldsLaw D V = (limits : FailureKind → Bool) (seen : Points → V) → limits TooManySteps ≡ true → TellsMoves limits seen
+    → TellsFuture limits (λ explores (w : World D). sight seen (without_yields explores w)) (LooksSame (λ explores (w : World D). sight seen (without_yields explores w)))

@@ -6,7 +6,7 @@ use Rattle.loom_engine.specs.Covering.States.{LooksSame, TellsFuture}
 
 -- The whole state tells the future.
 abbrev pub WholeLaw : Type 0 → Type 0
-WholeLaw D = (limits : FailureKind → Bool) → TellsFuture limits (λ explores (w : World D). w) (LooksSame (λ (w : World D). w))
+WholeLaw D = (limits : FailureKind → Bool) → TellsFuture limits (λ explores (w : World D). w) (LooksSame (λ explores (w : World D). w))
 
 module _ {D : Type 0} where
   -- nobody's turn
@@ -21,6 +21,6 @@ module _ {D : Type 0} where
 
 -- Whose turn it is may be left out where the search explores.
 abbrev pub TurnLaw : Type 0 → Type 0 → Type 0 → Type 0
-TurnLaw D K F = (limits : FailureKind → Bool) (look : Bool → World D → K) (between : World D → F) → TellsFuture limits look (LooksSame between)
-    → ((w v : World D) → LooksSame between w v → LooksSame between (without_active w) (without_active v))
+TurnLaw D K F = (limits : FailureKind → Bool) (look : Bool → World D → K) (between : Bool → World D → F) → TellsFuture limits look (LooksSame between)
+    → ((explores : Bool) (w v : World D) → LooksSame between explores w v → LooksSame between explores (without_active w) (without_active v))
     → TellsFuture limits (λ explores w. look explores (without_turn explores w)) (LooksSame between)

@@ -1,14 +1,15 @@
 -- States of a body's runs: what is kept of where a run stands, so that equal states have equal futures.
-use Rattle.std.specs.Prelude.{ℕ, ◌≡◌, Bool, true, List, [], length, Option, Result, Ok, Err, ⊤, ◌⊎◌}
+use Rattle.std.specs.Prelude.{ℕ, ◌≡◌, Bool, true, false, List, [], length, Option, Result, Ok, Err, ⊤, ◌⊎◌}
 use Rattle.std.specs.Option.{option_map}
 use Rattle.loom_views.specs.declared.rt.failure.FailureKind.{FailureKind}
 use Rattle.loom_views.specs.declared.rt.failure.FailureKind.TheVariants.{TooManySteps, TooManyVersions}
 use Rattle.loom_objects.specs.declared.choice.Choice.{Choice}
+use Rattle.loom_objects.specs.declared.operation.Reply.{Reply}
 use Rattle.loom_objects.specs.declared.operation.Request.{Request}
 use Rattle.loom_objects.specs.declared.operation.Turn.{Turn}
 use Rattle.loom_objects.specs.declared.operation.Turn.TheVariants.{Ended}
 use Rattle.loom_objects.specs.declared.rt.exploring.Exploring.{Exploring}
-use Rattle.loom_objects.specs.Exploring.{is_on}
+use Rattle.loom_objects.specs.Exploring.{is_on, is_switch}
 use Rattle.loom_objects.specs.Rules.Ending.{all_ended, end_of}
 use Rattle.loom_objects.specs.Rules.Steps.{begins, enters_wait, resumes}
 use Rattle.loom_objects.specs.Rules.Uses.{use_at}
@@ -68,14 +69,15 @@ EndsAlike limits (Err kind) (Ok b) = limits kind ≡ true
 EndsAlike limits (Err kind) (Err other) = (kind ≡ other) ⊎ (limits kind ≡ true) ⊎ (limits other ≡ true)
 
 -- What is seen of the machine's state at a schedule, where the search explores or doesn't, tells all that comes of it: each step
--- answers alike, limits aside. Between schedules states are alike in a finer sense, which tells whose turn it is.
-pub record TellsFuture {D K : Type 0} (limits : FailureKind → Bool) (look : Bool → World D → K) (Alike : World D → World D → Type 0) : Type 0 where
-  pub threads : (w v : World D) → Alike w v → length w.threads ≡ length v.threads
-  pub active : (w v : World D) → Alike w v → w.active ≡ v.active
-  pub looks : (explores : Bool) (w v : World D) → Alike w v → look explores w ≡ look explores v
-  pub begins : (todo : Request D ⊤) (w v : World D) → Alike w v → AreAlike limits (BothAlike Alike) (begins todo w) (begins todo v)
-  pub waits : (is_spurious : Bool) (n : ℕ) (w v : World D) → Alike w v → AreAlike limits (BothAlike Alike) (enters_wait is_spurious n w) (enters_wait is_spurious n v)
-  pub resumes : (explores : Bool) (t : ℕ) (w v : World D) → look explores w ≡ look explores v → AreAlike limits (BothAlike Alike) (resumes explores t w) (resumes explores t v)
+-- answers alike, limits aside. Between schedules states are alike in a finer sense, which tells whose turn it is, and may be another
+-- one where the search explores.
+pub record TellsFuture {D K : Type 0} (limits : FailureKind → Bool) (look : Bool → World D → K) (Alike : Bool → World D → World D → Type 0) : Type 0 where
+  pub threads : (explores : Bool) (w v : World D) → Alike explores w v → length w.threads ≡ length v.threads
+  pub active : (explores : Bool) (w v : World D) → Alike explores w v → w.active ≡ v.active
+  pub looks : (explores : Bool) (w v : World D) → Alike explores w v → look explores w ≡ look explores v
+  pub begins : (explores : Bool) (todo : Request D ⊤) (w v : World D) → Alike explores w v → AreAlike limits (BothAlike (Alike explores)) (begins todo w) (begins todo v)
+  pub waits : (explores is_spurious : Bool) (n : ℕ) (w v : World D) → Alike explores w v → AreAlike limits (BothAlike (Alike explores)) (enters_wait is_spurious n w) (enters_wait is_spurious n v)
+  pub resumes : (explores : Bool) (t : ℕ) (w v : World D) → look explores w ≡ look explores v → AreAlike limits (BothAlike (Alike explores)) (resumes explores t w) (resumes explores t v)
   pub ends : (explores : Bool) (w v : World D) → look explores w ≡ look explores v → EndsAlike limits (end_alone w) (end_alone v)
   pub all_ended : (explores : Bool) (w v : World D) → look explores w ≡ look explores v → all_ended w ≡ all_ended v
   pub uses : (explores : Bool) (w v : World D) → look explores w ≡ look explores v → (t : ℕ) → use_at w.threads t ≡ use_at v.threads t
@@ -86,23 +88,29 @@ pub record AreLimits (limits : FailureKind → Bool) : Type 0 where
   pub steps : limits TooManySteps ≡ true
   pub versions : limits TooManyVersions ≡ true
 
--- the same is seen of both
-abbrev pub LooksSame : {D F : Type 0} → (World D → F) → World D → World D → Type 0
-LooksSame between w v = between w ≡ between v
+-- the same is seen of both, where the search explores or doesn't
+abbrev pub LooksSame : {D F : Type 0} → (Bool → World D → F) → Bool → World D → World D → Type 0
+LooksSame between explores w v = between explores w ≡ between explores v
 
--- Where what is seen tells the future (at schedules by look, between them by between), equal states have equal futures, whatever the
--- bodies do and however many operations they may hand over.
+-- The body never switches whether the search explores, or states that are alike where it does are so where it doesn't.
+abbrev pub KeepsAlike : {D S : Type 0} → Meaning D S → (Bool → World D → World D → Type 0) → Type 0
+KeepsAlike {D} {S} next Alike = (state : S) (answer : Reply D)
+    → ((explores to : Bool) (w v : World D) → Alike explores w v → Alike to w v) ⊎ (is_switch (next state answer).1.request ≡ false)
+
+-- Where what is seen tells the future (at schedules by look, between them by between), equal states have equal futures, however many
+-- operations the bodies may hand over, and whatever they do; they switch whether the search explores only where as much is seen then.
 abbrev pub StatesLaw : Type 0 → Type 0 → Type 0 → Type 0 → Type 0
-StatesLaw D S K F = (limits : FailureKind → Bool) (look : Bool → World D → K) (between : World D → F) (next : Meaning D S) (explores : Bool) (max_threads max_steps steps_too : ℕ) (body : S)
-    → AreLimits limits → TellsFuture limits look (LooksSame between) → LooksSame between (first_world max_threads max_steps) (first_world max_threads steps_too)
+StatesLaw D S K F = (limits : FailureKind → Bool) (look : Bool → World D → K) (between : Bool → World D → F) (next : Meaning D S) (explores : Bool) (max_threads max_steps steps_too : ℕ) (body : S)
+    → AreLimits limits → TellsFuture limits look (LooksSame between) → KeepsAlike next (LooksSame between)
+    → ((explores : Bool) → LooksSame between explores (first_world max_threads max_steps) (first_world max_threads steps_too))
     → IsSound limits (world_of (runs next explores max_threads max_steps body)) (world_of (runs next explores max_threads steps_too body)) (state_after look next explores max_threads max_steps body)
     (state_after look next explores max_threads steps_too body)
 
 -- So a complete check of a body's runs that are cut off at states that were noted has covered each of its runs, those of more
 -- operations too: each fails by a limit, or comes to what a run came to that the visitor was given.
 abbrev pub CoveredBodyLaw : Type 0 → Type 0 → Type 0 → Type 0 → Type 0
-CoveredBodyLaw D S K F = (limits : FailureKind → Bool) (look : Bool → World D → K) (between : World D → F) (next : Meaning D S) (explores : Bool) (max_threads max_steps steps_too room : ℕ) (adds : Marking)
+CoveredBodyLaw D S K F = (limits : FailureKind → Bool) (look : Bool → World D → K) (between : Bool → World D → F) (next : Meaning D S) (explores : Bool) (max_threads max_steps steps_too room : ℕ) (adds : Marking)
     (body : S) (left : List (List Stored)) (given : List (List Choice × D)) → AreLimits limits → TellsFuture limits look (LooksSame between)
-    → LooksSame between (first_world max_threads max_steps) (first_world max_threads steps_too)
+    → KeepsAlike next (LooksSame between) → ((explores : Bool) → LooksSame between explores (first_world max_threads max_steps) (first_world max_threads steps_too))
     → IsMarking adds → Checks room adds (runs next explores max_threads max_steps body) (state_after look next explores max_threads max_steps body) left [] left given
     → Covers limits (world_of (runs next explores max_threads max_steps body)) (world_of (runs next explores max_threads steps_too body)) given

@@ -25,7 +25,7 @@ use Rattle.loom_engine.specs.Covering.Cut.{cut, passed}
 use Rattle.loom_engine.specs.Covering.Kept.{AreKeptAfter, GrowsFrom, Key, Noted}
 use Rattle.loom_engine.specs.Covering.Moments.{Moment, Stand, at_branch, first_stand, settled, stand_after, to_schedule}
 use Rattle.loom_engine.specs.Covering.Parts.{StayThere, on_begun}
-use Rattle.loom_engine.specs.Covering.Sight.{seen_at}
+use Rattle.loom_engine.specs.Covering.Sight.{seen_by}
 use Rattle.loom_engine.specs.Covering.States.{state_after}
 use Rattle.loom_engine.specs.Covering.Table.{IsAlong}
 
@@ -71,7 +71,7 @@ module _ {D S : Type 0} (room : ℕ) (adds : Marking) (next : Meaning D S) (expl
   tree = runs next explores max_threads max_steps body
 
   abbrev pub key : List Choice → Key D S
-  key = state_after seen_at next explores max_threads max_steps body
+  key = state_after (seen_by old.never) next explores max_threads max_steps body
 
   abbrev pub IsOnWay : Trail → Tree D → Stand D S → Type 0
   IsOnWay path ahead stand = Way room adds next tree (first_stand next explores max_threads max_steps body) p path ahead stand
@@ -89,6 +89,7 @@ module _ {D S : Type 0} (room : ℕ) (adds : Marking) (next : Meaning D S) (expl
   pub record Tables (noted : Noted D S) (path : Trail) : Type 0 where
     pub explained : AreKeptAfter key noted
     pub grows : GrowsFrom old noted
+    pub never : noted.never ≡ old.never
     pub later : AreLater noted path
     pub known : (c : List Choice) → Contains noted.led_by c → Contains old.led_by c ⊎ HasNode path.nodes c
 

@@ -1,8 +1,7 @@
 -- What holds of each body's tree of runs.
 use Rattle.std.specs.Prelude.{ℕ, ◌≡◌, Bool, true, false}
-use Rattle.loom_objects.specs.declared.operation.Request.{Request}
-use Rattle.loom_objects.specs.declared.operation.Request.TheVariants.{Explore}
 use Rattle.loom_objects.specs.declared.operation.Reply.{Reply}
+use Rattle.loom_objects.specs.Exploring.{is_switch}
 use Rattle.loom_objects.specs.Tree.Tree.{Tree}
 use Rattle.loom_engine.specs.Trees.Sound.{IsSoundTree, IsClosing, IsFair, EndsUnchosen}
 use Rattle.loom_engine.specs.Trees.Exploring.{ExploresTree}
@@ -19,11 +18,6 @@ pub record IsRunTree {A : Type 0} (tree : Tree A) : Type 0 where
 -- Each body's runs are such a tree, whatever the body means.
 abbrev pub RunTreeLaw : Type 0 → Type 0 → Type 0
 RunTreeLaw D S = (next : Meaning D S) (explores : Bool) (max_threads max_steps : ℕ) (body : S) → IsRunTree (runs next explores max_threads max_steps body)
-
--- it switches whether the search explores
-abbrev pub is_switch : {D S : Type 0} → Request D S → Bool
-is_switch (Explore todo) = true
-is_switch _ = false
 
 -- A body that never switches explores at each node, where its runs begin so.
 abbrev pub ExploresLaw : Type 0 → Type 0 → Type 0

@@ -4,7 +4,7 @@ ghost use Rattle.loom_engine.specs.Begun.{BeginningLaw};
 ghost use Rattle.loom_engine.specs.Covering.Cut.{CheckLaw, FailLaw, JoinedLaw, ThenLaw};
 ghost use Rattle.loom_engine.specs.Covering.Kept.{KeptLaw};
 ghost use Rattle.loom_engine.specs.Covering.Parts.{BegunLaw, HandingLaw, NodesLaw, ScheduleLaw};
-ghost use Rattle.loom_engine.specs.Covering.Points.{PointsLaw, ThemselvesLaw};
+ghost use Rattle.loom_engine.specs.Covering.Points.{PointsLaw, ThemselvesLaw, YieldsLaw};
 ghost use Rattle.loom_engine.specs.Covering.Seen.{TurnLaw, WholeLaw};
 ghost use Rattle.loom_engine.specs.Covering.Sight.{BodyEndsLaw, SeenBodyLaw, SightMovesLaw};
 ghost use Rattle.loom_engine.specs.Covering.States.{CoveredBodyLaw, StatesLaw};
@@ -69,6 +69,11 @@ pub fn turn_may_be_left_out<D, K, F>()
 /// Where what is seen of points tells their moves, the state with that in place of the points tells the future (own).
 pub fn sight_of_points_tells_the_future<D, V>()
     ensures { PointsLaw D V }
+{}
+
+/// How often threads have yielded may be left out of that where the search explores, of a body that never switches that (own).
+pub fn yields_may_be_left_out<D, V>()
+    ensures { YieldsLaw D V }
 {}
 
 /// The points themselves tell their moves: so there is something that can be seen of them and tells that (own).

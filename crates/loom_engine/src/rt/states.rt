@@ -7,6 +7,7 @@ pub mod ways;
 
 ghost use Rattle.std.specs.Prelude.{◌≡◌, [], IfOk, IfSome, IsTrue, length, slice_get, Some};
 ghost use Rattle.loom_engine.specs.Covering.Kept.{HasScene, NotesAs, state_in};
+ghost use Rattle.loom_engine.specs.Covering.Points.{yields_seen};
 ghost use Rattle.loom_views.specs.InOrder.{IsInOrder};
 ghost use Rattle.loom_engine.specs.Path.Route.{chosen};
 
@@ -19,7 +20,7 @@ use loom_objects::data::Data;
 use loom_objects::operation::Lazy;
 use loom_objects::rt::object::Object;
 use loom_objects::rt::scene::Scene;
-use loom_objects::rt::schedule::Yields;
+use loom_objects::rt::schedule::{Yields, no_yields};
 use loom_objects::rt::thread::Thread;
 use loom_views::rt::views::Views;
 use loom_views::same::{Same, are_same};
@@ -48,8 +49,9 @@ impl<D: Data + Same, B: Body + Same> State<D, B> {
         execution: &Execution<D>,
         bodies: &[B],
         views: Views,
+        never_switches: bool,
     ) -> Result<State<D, B>, AllocError>
-        ensures { IfOk result (λ state. state ≡ state_in execution.now.run bodies.now views) }
+        ensures { IfOk result (λ state. state ≡ state_in never_switches execution.now.run bodies.now views) }
     {
         let scene = execution.scene();
         Ok(State {
@@ -58,20 +60,17 @@ impl<D: Data + Same, B: Body + Same> State<D, B> {
             views,
             lazies: copied_all(alloc, scene.lazies().as_slice())?,
             max_threads: scene.max_threads(),
-            yields: *scene.yields(),
+            yields: kept_yields(never_switches, scene.yields()),
             ordered: execution.ordered_threads(),
             bodies: copied_bodies(alloc, bodies)?,
         })
     }
 
-    /// Whether it has what the scene has, but for whose turn it is, and for its views.
+    /// Whether it has what the scene has, but for whose turn it is, and for its views and yields.
     fn has_scene(&self, scene: &Scene<D>) -> bool
         ensures { IsTrue result → HasScene self.now scene.now }
     {
         if self.max_threads != scene.max_threads() {
-            return false;
-        }
-        if !are_yields_same(&self.yields, scene.yields()) {
             return false;
         }
         if !are_equal(self.threads.as_slice(), scene.threads().as_slice()) {
@@ -83,12 +82,29 @@ impl<D: Data + Same, B: Body + Same> State<D, B> {
         are_equal(self.lazies.as_slice(), scene.lazies().as_slice())
     }
 
+    /// Whether it has the scene's yields, or nothing of them, where the body is known never to switch whether the search explores.
+    fn has_yields(&self, scene: &Scene<D>, never_switches: bool) -> bool
+        ensures { IsTrue result → self.now.yields ≡ yields_seen never_switches scene.now.yields }
+    {
+        let yields = kept_yields(never_switches, scene.yields());
+        are_yields_same(&self.yields, &yields)
+    }
+
     /// Whether the run stands in this state, with these views in place of its own.
     #[tactic(auto, using(crate::proofs::Covering::Kept::is_state_in))]
-    fn is_at(&self, execution: &Execution<D>, bodies: &[B], views: &Views) -> bool
-        ensures { IsTrue result → self.now ≡ state_in execution.now.run bodies.now views.now }
+    fn is_at(
+        &self,
+        execution: &Execution<D>,
+        bodies: &[B],
+        views: &Views,
+        never_switches: bool,
+    ) -> bool
+        ensures { IsTrue result → self.now ≡ state_in never_switches execution.now.run bodies.now views.now }
     {
         if !self.views.is_same(views) {
+            return false;
+        }
+        if !self.has_yields(execution.scene(), never_switches) {
             return false;
         }
         if self.ordered != execution.ordered_threads() {
@@ -99,6 +115,16 @@ impl<D: Data + Same, B: Body + Same> State<D, B> {
         }
         are_same(self.bodies.as_slice(), bodies)
     }
+}
+
+/// What is kept of how often threads have yielded: nothing, where the body is known never to switch whether the search explores.
+fn kept_yields(never_switches: bool, yields: &Yields) -> Yields
+    ensures { result ≡ yields_seen never_switches yields.now }
+{
+    if never_switches {
+        return no_yields();
+    }
+    *yields
 }
 
 /// Whether the threads have yielded as often.
@@ -123,7 +149,8 @@ fn copied_bodies<B: Body>(alloc: Global, bodies: &[B]) -> Result<Sequence<B>, Al
 const LISTS: usize = 65_536;
 
 /// The states that a search has noted, at most so many of them, each with the choices by which a run came to it. Where no more may be,
-/// none is noted, and those that were are still found (own).
+/// none is noted, and those that were are still found. Of a body that is known never to switch whether the search explores they are told
+/// apart by less (own).
 #[derive(Drop)]
 pub struct States<D, B> {
     states: Sequence<State<D, B>>,
@@ -133,6 +160,7 @@ pub struct States<D, B> {
     // the last one of each list
     last: Vec<usize>,
     most: usize,
+    never_switches: bool,
     alloc: Global,
 }
 
@@ -141,13 +169,14 @@ impl<D, B> Model for States<D, B> {
 
     ghost Value = { Noted D B };
 
-    ghost view = { λ s. record { states = s.states; led_by = s.led_by } };
+    ghost view = { λ s. record { states = s.states; led_by = s.led_by; never = s.never_switches } };
 }
 
 impl<D: Data + Same, B: Body + Same> States<D, B> {
-    /// None yet, and at most so many. An error where memory is refused.
-    pub fn new(alloc: Global, most: usize) -> Result<States<D, B>, AllocError>
-        ensures { IfOk result (λ states. states ≡ record { states = []; led_by = [] }) }
+    /// None yet, and at most so many, of a body that is known never to switch whether the search explores, or of any. An error where memory is
+    /// refused.
+    pub fn new(alloc: Global, most: usize, never_switches: bool) -> Result<States<D, B>, AllocError>
+        ensures { IfOk result (λ states. states ≡ record { states = []; led_by = []; never = never_switches }) }
     {
         let mut last = Vec::new(alloc);
         last.resize(LISTS, 0)?;
@@ -157,6 +186,7 @@ impl<D: Data + Same, B: Body + Same> States<D, B> {
             before: Vec::new(alloc),
             last,
             most,
+            never_switches,
             alloc,
         })
     }
@@ -184,14 +214,15 @@ impl<D: Data + Same, B: Body + Same> States<D, B> {
 
     /// The number of the state that the run is in, if it was noted, with these views in place of its own.
     pub fn find(&self, execution: &Execution<D>, bodies: &[B], views: &Views) -> Option<usize>
-        ensures { IfSome result (λ number. slice_get self.now.states number ≡ Some (state_in execution.now.run bodies.now views.now)) }
+        ensures { IfSome result (λ number. slice_get self.now.states number ≡ Some (state_in self.now.never execution.now.run bodies.now views.now)) }
     {
         let mut number = self.last_of(list_of(views));
         for _ in 0..self.states.len() {
             if number == 0 || number > self.states.len() {
                 return None;
             }
-            if self.states.at(number - 1).is_at(execution, bodies, views) {
+            let state = self.states.at(number - 1);
+            if state.is_at(execution, bodies, views, self.never_switches) {
                 return Some(number - 1);
             }
             number = self.one_before(number - 1);
@@ -208,13 +239,13 @@ impl<D: Data + Same, B: Body + Same> States<D, B> {
         views: Views,
         path: &Path,
     ) -> Result<(), AllocError>
-        ensures { IfOk result (λ _. NotesAs (state_in execution.now.run bodies.now views) (chosen path.now) self.old self.new) }
+        ensures { IfOk result (λ _. NotesAs (state_in self.old.never execution.now.run bodies.now views) (chosen path.now) self.old self.new) }
     {
         if self.states.len() >= self.most {
             return Ok(());
         }
         let list = list_of(&views);
-        let state = State::of(self.alloc, execution, bodies, views)?;
+        let state = State::of(self.alloc, execution, bodies, views, self.never_switches)?;
         let choices = path.choices(self.alloc)?;
         self.led_by.push(Sequence::from_vec(choices))?;
         let before = self.last_of(list);

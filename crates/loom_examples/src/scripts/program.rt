@@ -1,10 +1,14 @@
 //! The steps of a script, with the places to which they lead.
-ghost use Rattle.std.specs.Prelude.{◌≡◌, ◌<◌, ◌^◌, IfOk, OnSome, Some, map, option_copied, position, slice_get};
+ghost use Rattle.std.specs.Prelude.{◌≡◌, ◌<◌, ◌^◌, IfOk, OnSome, Some, map, not, option_copied, position, slice_get};
+ghost use Rattle.std.specs.List.{list_all};
 ghost use Rattle.std.specs.Option.{option_map};
 ghost use Rattle.loom_examples.specs.Scripts.Running.{is_label, named_place, place_of};
+ghost use Rattle.loom_examples.specs.Scripts.Switching.{switches};
 ghost use Rattle.loom_examples.specs.Scripts.Written.{written};
+ghost use Rattle.loom_objects.specs.Exploring.{is_switch};
 
-use crate::scripts::step::Step;
+use crate::scripts::step::{Step, Value};
+use loom_objects::operation::Request;
 use std::alloc::{AllocError, Global};
 use std::marker::Model;
 
@@ -71,6 +75,14 @@ impl Program {
         Some(&self.steps[place])
     }
 
+    /// Whether no step switches whether the search explores.
+    #[tactic(auto, using(crate::proofs::ScriptLemmas::Switching::none_switch))]
+    pub(crate) fn never_switches(&self) -> bool
+        ensures { result ≡ list_all (λ step. not (switches step)) self.now }
+    {
+        never_switch(self.steps)
+    }
+
     /// Where the label stands that the step at this place names. Where it names none, the steps' end.
     pub(crate) fn named_at(&self, place: usize) -> usize
         ensures { result ≡ named_place self.now (slice_get self.now place) }
@@ -80,6 +92,35 @@ impl Program {
         }
         self.places[place]
     }
+}
+
+// Whether the step switches whether the search explores.
+fn switches(step: &Step) -> bool
+    ensures { result ≡ switches (written step.now) }
+{
+    match step {
+        Step::Do(_, asked) | Step::Labelled(_, asked, _) => is_switch(asked),
+        Step::Store(..)
+        | Step::Label(_)
+        | Step::JumpTo(_)
+        | Step::IfTo(..)
+        | Step::UnlessTo(..)
+        | Step::SpawnAt(..) => false,
+    }
+}
+
+// Whether what is asked for is such a switch.
+fn is_switch(asked: &Request<Value, usize>) -> bool
+    ensures { result ≡ is_switch asked.now }
+{
+    matches!(asked, Request::Explore(_))
+}
+
+// Whether none of the steps does.
+fn never_switch(steps: &[Step]) -> bool
+    ensures { result ≡ list_all (λ step. not (switches (written step))) steps.now }
+{
+    steps.iter().all(|step| !switches(step))
 }
 
 // Where the label stands that the step names. Where it names none, the steps' end.

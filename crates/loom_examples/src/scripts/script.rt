@@ -1,7 +1,8 @@
 //! Bodies that take one step of a list after another.
-ghost use Rattle.std.specs.Prelude.{◌≡◌, Err, IfOk, None, Ok, Some, map, option_copied};
+ghost use Rattle.std.specs.Prelude.{◌≡◌, Err, IfOk, IsTrue, None, Ok, Some, map, option_copied};
 ghost use Rattle.std.specs.Option.{option_map};
 ghost use Rattle.loom_objects.specs.Operation.Labelled.{bare};
+ghost use Rattle.loom_objects.specs.Operation.Switching.{NeverSwitches};
 ghost use Rattle.loom_examples.specs.Scripts.Running.{spawned, started};
 ghost use Rattle.loom_examples.specs.Scripts.Script.{label_of, next_of, request, store};
 ghost use Rattle.loom_examples.specs.Scripts.Written.{written};
@@ -223,6 +224,12 @@ impl Body for Script {
         self.program = Arc::try_clone(&start.program)?;
         *self.state = *start.state;
         Ok(())
+    }
+
+    fn never_switches(&self) -> bool
+        ensures { IsTrue result → NeverSwitches next_of self.now }
+    {
+        self.program().never_switches()
     }
 }
 

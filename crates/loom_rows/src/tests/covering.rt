@@ -329,7 +329,8 @@ fn so_many_states_are_met(rt: HostRuntime) {
 }
 
 // Rows whose other searches fail by the length of their runs.
-static SPINNING: [(&str, &str); 2] = [
+static SPINNING: [(&str, &str); 3] = [
+    ("acq_rel", "complete 36 met 2885 states 2062"),
     ("spinners", "complete 2 met 41 states 34"),
     ("spinners_forever", "livelock"),
 ];

@@ -1,5 +1,6 @@
 //! The threads of a test as bodies: main makes the objects, starts the test's threads and joins them, and reads what is left.
-ghost use Rattle.std.specs.Prelude.{◌≡◌, ◌∷◌, [], IfOk, take};
+ghost use Rattle.std.specs.Prelude.{◌≡◌, ◌∷◌, [], IfOk, IsTrue, take};
+ghost use Rattle.loom_objects.specs.Operation.Switching.{NeverSwitches};
 ghost use Rattle.loom_text.specs.Run.State.{held};
 ghost use Rattle.loom_text.specs.Run.Thread.{atomic_op, change_of, next_of, request, started, word};
 
@@ -212,6 +213,13 @@ impl Body for TestThread {
             thread: self.thread,
             state: self.state.try_clone()?,
         })
+    }
+
+    // A test has no operation for it.
+    fn never_switches(&self) -> bool
+        ensures { IsTrue result → NeverSwitches next_of self.now }
+    {
+        true
     }
 }
 

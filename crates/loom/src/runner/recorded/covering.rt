@@ -170,7 +170,7 @@ fn cover_known<D: Exact + Same, V: Visitor<D>, C: Clock, S: CheckpointStore, L: 
     ensures faults { CountsFaults result (S.fault_count store.old) (S.fault_count store.new) }
 {
     let mut room = Room::new(alloc, builder.limits())?;
-    let mut states = States::new(alloc, most_states)?;
+    let mut states = States::new(alloc, most_states, false)?;
     cover_rounds(
         alloc,
         builder,
@@ -201,7 +201,7 @@ fn cover_rounds<D: Exact + Same, V: Visitor<D>, C: Clock, S: CheckpointStore, L:
     requires few { builder.now.max_threads ≤ 5 }
     requires branches { builder.now.max_branches ≤ 1000000 }
     requires interval { 0 < builder.now.checkpoint_interval }
-    requires none { states.old ≡ record { states = []; led_by = [] } }
+    requires none { states.old ≡ record { states = []; led_by = []; never = false } }
     ensures covers { (does : Function D) → (words : List (Word D)) → IsTrueOf does words recording.now
         → IfOk result (Covering V.takes visitor.old visitor.new builder.now (by_function does) [] (S.gives store.old) (S.holds store.new) (C.answered clock.new)) }
     ensures left { (does : Function D) → (words : List (Word D)) → IsTrueOf does words recording.now

@@ -61,7 +61,7 @@ impl<D: Exact + Same> Search<D> {
             builder.max_branches,
             builder.expect_explicit_explore,
         );
-        let states = States::new(alloc, most_states)?;
+        let states = States::new(alloc, most_states, false)?;
         let path = Path::new(alloc, settings);
         Ok(Search {
             path,

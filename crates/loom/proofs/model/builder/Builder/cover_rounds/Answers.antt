@@ -20,7 +20,7 @@ loop-limit-init g c = record {
   within = omega arith;
   checking =
       checking_starts c.args.self.now g.B.Body.next c.args.body.now g.R.Receiver.receives c.args.receiver.now (g.S.CheckpointStore.gives c.args.store.now) (g.S.CheckpointStore.holds c.begin_cover.new.store) c.in_ok-path.path
-      c.args.states.now c.new-ways.result c.in_ok-path.ensures.begun c.requires.none c.new-ways.ensures;
+      c.args.states.now c.new-ways.result c.in_ok-path.ensures.begun c.args.states.now.never c.requires.none c.requires.known c.new-ways.ensures;
   faultless = uncounted c.begin_cover.result c.in_ok-path.path _ _ c.in_ok-path.was c.begin_cover.ensures.faults;
 }
 

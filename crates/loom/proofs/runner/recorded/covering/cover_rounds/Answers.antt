@@ -20,7 +20,7 @@ loop-limit-init g c = record {
     0,
     omega (arith, c.requires.interval),
     checking_starts c.args.builder.now (by_function does) [] g.V.Visitor.takes c.args.visitor.now (g.S.CheckpointStore.gives c.args.store.now) (g.S.CheckpointStore.holds c.begin_cover.new.store) c.in_ok-path.path
-        (all_told words c.args.states.now) c.new-ways.result c.in_ok-path.ensures.begun (ap (all_told words) c.requires.none) c.new-ways.ensures,
+        (all_told words c.args.states.now) c.new-ways.result c.in_ok-path.ensures.begun false (ap (all_told words) c.requires.none) (λ e. absurd (cc e)) c.new-ways.ensures,
   );
   faultless = uncounted c.begin_cover.result c.in_ok-path.path _ _ c.in_ok-path.was c.begin_cover.ensures.faults;
 }

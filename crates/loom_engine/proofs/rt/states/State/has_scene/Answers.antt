@@ -6,11 +6,9 @@ returns g c = λ same.
     let threads = c.are_equal.ensures (search rules) in
     let objects = c.are_equal-2.ensures (search rules) in
     let lazies = c.are_equal-3.ensures same in
-    let yields = c.are_yields_same.ensures (search rules) in
     record {
       threads = cc (threads, c.as_slice.ensures, c.as_slice-2.ensures, c.threads.ensures);
       objects = cc (objects, c.as_slice-3.ensures, c.as_slice-4.ensures, c.objects.ensures);
       lazies = cc (lazies, c.as_slice-5.ensures, c.as_slice-6.ensures, c.lazies.ensures);
       max_threads = cc (c.if-self-max_threads.false, c.max_threads.ensures);
-      yields = cc (yields, c.yields.ensures);
     }

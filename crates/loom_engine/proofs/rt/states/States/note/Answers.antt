@@ -6,9 +6,9 @@ use Rattle.loom_engine.proofs.rt.states.States.note.Goals as goal
 
 pub returns : goal.returns
 returns g c =
-    let states : c.push-3.new.self ≡ c.args.self.now.states ++ state_in c.args.execution.now.run c.args.bodies.now c.args.views ∷ [] = search rules in
+    let states : c.push-3.new.self ≡ c.args.self.now.states ++ state_in c.args.self.now.never c.args.execution.now.run c.args.bodies.now c.args.views ∷ [] = search rules in
     let led_by : c.push.new.self ≡ c.args.self.now.led_by ++ chosen c.args.path.now ∷ [] = search rules in
     elim c.match-get_mut.branch [
-      | in-Some w ↦ inl (ap (λ s. s.states) w.self-inside-is ∙ states, ap (λ s. s.led_by) w.self-inside-is ∙ led_by)
-      | in_default w ↦ inl (ap (λ s. s.states) w.self-inside-is ∙ states, ap (λ s. s.led_by) w.self-inside-is ∙ led_by)
+      | in-Some w ↦ inl (ap (λ s. s.states) w.self-inside-is ∙ states, ap (λ s. s.led_by) w.self-inside-is ∙ led_by, ap (λ s. s.never_switches) w.self-inside-is)
+      | in_default w ↦ inl (ap (λ s. s.states) w.self-inside-is ∙ states, ap (λ s. s.led_by) w.self-inside-is ∙ led_by, ap (λ s. s.never_switches) w.self-inside-is)
     ]
