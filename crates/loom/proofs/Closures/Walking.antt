@@ -12,7 +12,7 @@ use Rattle.loom.specs.declared.model.builder.Builder.{Builder}
 use Rattle.loom.specs.declared.model.walk.Walk.{Walk}
 use Rattle.loom.specs.declared.model.walk.Walked.TheVariants as walked
 use Rattle.loom.specs.Model.Check.{HasLasted}
-use Rattle.loom.specs.Model.Different.{Counted, IsCount, Notes, TellsDifferent, hash_of}
+use Rattle.loom.specs.Model.Different.{Counted, IsCount, Notes, TellsDifferent}
 use Rattle.loom.specs.Model.Walking.{asked_runs, is_cut}
 use Rattle.loom.specs.declared.runner.drawn.DrawnEnd.{DrawnEnd}
 use Rattle.loom.specs.declared.runner.drawn.DrawnEnd.TheVariants.{Ended, Cut, Failed}

@@ -1,14 +1,46 @@
 -- A count of different runs: what it has where one more is noted, and what it tells of the runs.
-use Rattle.std.proofs.Common.{◌≡◌, ◌∙◌, ◌⊎◌, ℕ, suc, inl, inr, Bool, true, false, cond, List, [], ◌∷◌, length, refl, sym, ap, subst, IsTrue, nat_eq}
-use Rattle.std.specs.Prelude.{◌||◌, ◌↔◌, map}
+use Rattle.std.proofs.Common.{◌≡◌, ◌≤◌, ◌∙◌, ◌⊎◌, ◌+◌, ℕ, zero, suc, inl, inr, Bool, true, false, cond, List, [], ◌∷◌, length, take, drop, refl, sym, ap, subst, IsTrue, nat_eq, arith}
+use Rattle.std.specs.Prelude.{◌||◌, ◌↔◌, map, slice_get, Some}
 use Rattle.std.specs.List.{AllByRecursion, IsDistinct, list_any}
 use Rattle.std.specs.HashSet as bag
 use Rattle.std.specs.HashSet.{HashSet}
 use Rattle.std.proofs.lemmas.Cmp.{nat_eq_equiv}
+use Rattle.std.proofs.lemmas.List.{at_drop_all}
 use Rattle.std.proofs.lemmas.Map.Views.{exact_unsigned_eq}
 use Rattle.loom_objects.specs.declared.choice.Choice.{Choice}
+use Rattle.loom_engine.specs.Path.Route.{Route, chosen, stored}
 use Rattle.loom_engine.specs.Walk.Lists.{Each, IsOnce, Member}
-use Rattle.loom.specs.Model.Different.{AllDifferentLaw, AreDifferent, Counted, Has, HasHash, IsCount, Notes, hash_of}
+use Rattle.loom_engine.specs.Walk.Path.{Stored, choices}
+use Rattle.loom.specs.Model.Different.{AllDifferentLaw, AreDifferent, Counted, Has, HasHash, IsCount, Notes, hash_from, hash_of, step}
+
+-- ---- a hash along a path
+
+along : (xs : List Choice) (place : ℕ) (x : Choice) (hash : ℕ) → slice_get xs place ≡ Some x → hash_from (step hash x) (drop (place + 1) xs) ≡ hash_from hash (drop place xs)
+along [] place x hash e = absurd (cc e)
+along (y ∷ xs) zero x hash e =
+    let one : zero + 1 ≡ suc zero = omega arith in
+    let same : x ≡ y = cc e in
+    ap (λ (k : ℕ). hash_from (step hash x) (drop k (y ∷ xs))) one ∙ ap (λ (z : Choice). hash_from (step hash z) xs) same
+along (y ∷ xs) (suc place) x hash e =
+    let next : suc place + 1 ≡ suc (place + 1) = omega arith in
+    ap (λ (k : ℕ). hash_from (step hash x) (drop k (y ∷ xs))) next ∙ along xs place x hash e
+
+-- the hash of the choices up to a place takes in the next one
+pub along_more : (xs : List Choice) (place : ℕ) (x : Choice) (hash next all : ℕ) → slice_get xs place ≡ Some x → next ≡ step hash x → hash_from hash (drop place xs) ≡ all → hash_from next (drop (place + 1) xs) ≡ all
+along_more xs place x hash next all e is h = ap (λ (n : ℕ). hash_from n (drop (place + 1) xs)) is ∙ along xs place x hash e ∙ h
+
+-- and at the end it is that of all
+pub along_all : (xs : List Choice) (place hash all : ℕ) → length xs ≤ place → hash_from hash (drop place xs) ≡ all → hash ≡ all
+along_all xs place hash all past h = sym (at_drop_all (hash_from hash) xs place past) ∙ h
+
+first_choices : (n : ℕ) (nodes : List Stored) → length (choices (take n nodes)) ≤ n
+first_choices zero nodes = omega arith
+first_choices (suc n) [] = omega arith
+first_choices (suc n) (x ∷ nodes) = let rest : length (choices (take n nodes)) ≤ n = first_choices n nodes in omega arith
+
+-- a run has made no more choices than it has passed nodes
+pub no_more_chosen : (route : Route) → length (chosen route) ≤ route.position
+no_more_chosen route = first_choices route.position (stored route.nodes)
 
 -- ---- one more
 

@@ -42,17 +42,14 @@ impl Different {
         }
     }
 
-    /// The run along this path came. Its choices are listed as long as a number is to be told.
-    pub(crate) fn note_run(&mut self, alloc: Global, path: &Path)
+    /// The run along this path came. Nothing is computed of it where no number is to be told.
+    pub(crate) fn note_run(&mut self, path: &Path)
         ensures { Notes (hash_of (chosen path.now)) self.old self.new }
     {
         if self.is_left_out {
             return;
         }
-        match path.choices(alloc) {
-            Ok(choices) => self.note(hash_of(choices.as_slice())),
-            Err(_) => self.is_left_out = true,
-        }
+        self.note(hash_along(path));
     }
 
     /// A run came whose choices have this hash. Where there are too many, or memory for it is refused, their number is left out.
@@ -78,6 +75,17 @@ impl Different {
         }
         Some(self.hashes.len() as u64)
     }
+}
+
+/// A hash of the choices of the run that has come along the path.
+fn hash_along(path: &Path) -> u64
+    ensures { result ≡ hash_of (chosen path.now) }
+{
+    let mut hash = 0u64;
+    'choices: for place in 0..path.position() {
+        hash = step(hash, path.choice(place));
+    }
+    hash
 }
 
 /// A hash of the choices.

@@ -130,7 +130,7 @@ fn take_run<D: Drop, V: Visitor<D>>(
 {
     match ending {
         Ending::Ended(value) => {
-            different.note_run(alloc, path);
+            different.note_run(path);
             visitor.run_along(alloc, path, value)?;
             Ok(Taken::On)
         }

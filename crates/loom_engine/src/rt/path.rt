@@ -523,6 +523,15 @@ impl Path {
         self.nodes.list.len() <= self.nodes.position && self.given.len() <= self.nodes.position
     }
 
+    /// What was chosen at the node at a place, which the run has passed (own).
+    #[inline(always)]
+    pub fn choice(&self, place: usize) -> Choice
+        requires { place < self.now.position }
+        ensures { slice_get (chosen self.now) place ≡ Some result }
+    {
+        self.nodes.list.choice(place)
+    }
+
     /// The choices at the nodes that the run has passed. An error only where there are some, and memory for them is refused.
     pub fn choices(&self, alloc: Global) -> Result<Vec<Choice>, AllocError>
         ensures list { IfOk result (λ list. list.items ≡ chosen self.now) }
