@@ -436,14 +436,22 @@ fn spin(views: &mut Views) {
     let _ = views.load(0, 0, 0, Ordering::Acquire);
 }
 
+// These views by ranks.
+fn by_ranks<R: AllocGlobal + Abort>(rt: &R, views: &Views) -> Views {
+    let spare = Views::new(rt.alloc());
+    views
+        .ranked(rt.alloc(), spare)
+        .expect(rt, "no memory for views")
+}
+
 #[test]
 fn spinning_comes_back(rt: HostRuntime) {
     let mut views = Views::new(rt.alloc());
     let _ = views.add_atomic(0, 0);
     spin(&mut views);
-    let once = views.ranked(rt.alloc()).expect(&rt, "no memory for views");
+    let once = by_ranks(&rt, &views);
     spin(&mut views);
-    let again = views.ranked(rt.alloc()).expect(&rt, "no memory for views");
+    let again = by_ranks(&rt, &views);
     holds(&rt, once.is_same(&again), "by ranks they are the same");
     holds(&rt, !once.is_same(&views), "by counts they aren't");
 }

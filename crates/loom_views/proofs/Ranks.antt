@@ -1,6 +1,6 @@
 -- Ranks of counts: a table of them, one count after another, and what they leave of views.
 use Rattle.std.proofs.Common.{zero, suc, ◌≡◌, ℕ, ◌+◌, ◌<◌, List, [], ◌∷◌, ◌++◌, length, take, take-suc, get_or, refl, ap, sym, ◌∙◌, arith, subst, ◌⊎◌, inl, inr, ⊎_elim, Option, Some, None}
-use Rattle.std.specs.Prelude.{nat_le, slice_get}
+use Rattle.std.specs.Prelude.{nat_le, slice_get, slice_index}
 use Rattle.std.specs.List.{AllByRecursion}
 use Rattle.std.proofs.lemmas.Bool.{cases_eq, le-leb, lt-leb}
 use Rattle.std.proofs.lemmas.List.{get_or_default, length_push}
@@ -8,6 +8,7 @@ use Rattle.loom_views.specs.InOrder.{AreRising, IsRising, PairsAt, PairsCounts, 
 use Rattle.loom_views.specs.declared.rt.views.Views.{Views}
 use Rattle.loom_views.specs.declared.rt.atomic.Store.{Store}
 use Rattle.loom_views.specs.Atomic.Ring.{blank_store, store_at}
+use Rattle.loom_views.specs.Lanes.{counts_in}
 use Rattle.loom_views.proofs.Atomic.Table.Lists.{get-append_same, get-append_other}
 use Rattle.loom_views.proofs.Sight.Shapes.{is_there}
 
@@ -135,3 +136,20 @@ pair_next {X} R Pairs vs ws more i v w l e h at p =
 -- views by ranks are in the order of the views
 pub in_order : (ranks : List (List (Option ℕ))) (v w : Views) → IsRising (Ranked ranks) → PairsViews (Ranked ranks) v w → IsInOrder v w
 in_order ranks v w rising pairs = record { rank = rank_at ranks; rising = rising; views = pairs }
+
+-- ---- nothing raised
+
+no_count : (t : ℕ) → t < 5 → slice_index (counts_in 0) t ≡ 0
+no_count zero l = refl
+no_count (suc zero) l = refl
+no_count (suc (suc zero)) l = refl
+no_count (suc (suc (suc zero))) l = refl
+no_count (suc (suc (suc (suc zero)))) l = refl
+no_count (suc (suc (suc (suc (suc t))))) l = absurd (omega arith)
+
+-- a vector of zeros is by ranks what it is
+pub zeros_themselves : (R : ℕ → ℕ → ℕ → Type 0) (word : ℕ) (counts : List ℕ) → word ≡ 0 → counts ≡ counts_in word → ((t : ℕ) → t < 5 → R t 0 0) → (t : ℕ) → t < 5 → R t (slice_index counts t) (slice_index (counts_in word) t)
+zeros_themselves R word counts zero_word is zeros t l =
+    let here : slice_index (counts_in word) t ≡ 0 = ap (λ (w : ℕ). slice_index (counts_in w) t) zero_word ∙ no_count t l in
+    let there : slice_index counts t ≡ 0 = ap (λ (cs : List ℕ). slice_index cs t) is ∙ here in
+    subst (λ (n : ℕ). R t (slice_index counts t) n) (sym here) (subst (λ (n : ℕ). R t n 0) (sym there) (zeros t l))

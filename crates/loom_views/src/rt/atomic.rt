@@ -626,6 +626,12 @@ impl Store {
         self.first_seen.stand(standing);
     }
 
+    /// A number that depends on the store alone.
+    fn digest(&self) -> u64 {
+        let views = mixed(self.order.digest(), self.sync.digest());
+        mixed(mixed(views, self.first_seen.versions.digest()), self.value)
+    }
+
     /// The store by ranks, if each count has one.
     fn ranked(&self, ranks: &Ranks) -> Option<Store>
         ensures { IfSome result (λ ranked. PairsStores (Ranked ranks.now) self.now ranked) }
@@ -641,6 +647,7 @@ impl Store {
 }
 
 /// The kept stores by ranks, if each count has one.
+#[inline(always)]
 fn ranked_stores(
     stores: &[Store; MAX_ATOMIC_HISTORY],
     ranks: &Ranks,
@@ -672,6 +679,7 @@ impl State {
     }
 
     /// The atomic by ranks, if each count has one (own).
+    #[inline(always)]
     pub fn ranked(&self, ranks: &Ranks) -> Option<State>
         ensures { IfSome result (λ ranked. PairsStates (Ranked ranks.now) self.now ranked) }
     {
@@ -686,12 +694,13 @@ impl State {
         })
     }
 
-    /// A number that depends on what is kept alone (own).
+    /// A number that depends on what is kept alone: on all of it, but for what unsynchronized accesses leave, so that few differ
+    /// that have the same one (own).
     pub fn digest(&self) -> u64 {
         let mut digest = mixed(self.loaded_at.digest(), self.stored_at.digest());
-        for store in self.stores.as_slice() {
-            digest = mixed(digest, mixed(store.value, store.order.digest()));
+        for store in &self.stores.as_slice()[..self.kept()] {
+            digest = mixed(digest, store.digest());
         }
-        digest
+        mixed(digest, u64::from(self.count))
     }
 }

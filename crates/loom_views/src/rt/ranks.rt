@@ -70,8 +70,19 @@ impl Standing {
     }
 
     /// The ranks of these counts. An error where memory is refused (own).
+    pub fn ranks(&self, alloc: Global) -> Result<Option<Ranks>, AllocError>
+        ensures { IfOk result (λ found. IfSome found (λ ranks. IsRising (Ranked ranks))) }
+    {
+        let threads = self.table(alloc)?;
+        if !have_zeros(&threads) {
+            return Ok(None);
+        }
+        Ok(Some(Ranks { threads }))
+    }
+
+    /// For each thread, the ranks of its counts. An error where memory is refused.
     #[tactic(auto, using(crate::proofs::Ranks::all_more, crate::proofs::Ranks::all_rising))]
-    pub fn ranks(&self, alloc: Global) -> Result<Ranks, AllocError>
+    fn table(&self, alloc: Global) -> Result<Sequence<Sequence<Option<u16>>>, AllocError>
         ensures { IfOk result (λ ranks. IsRising (Ranked ranks)) }
     {
         let end = self.end.min(RANKED);
@@ -80,9 +91,7 @@ impl Standing {
             let start = thread * RANKED;
             ranks.push(ranks_of(alloc, &self.stands[start..start + end])?)?;
         }
-        Ok(Ranks {
-            threads: Sequence::from_vec(ranks),
-        })
+        Ok(Sequence::from_vec(ranks))
     }
 }
 
@@ -104,18 +113,52 @@ fn ranks_of(alloc: Global, stands: &[bool]) -> Result<Sequence<Option<u16>>, All
     Ok(Sequence::from_vec(ranks))
 }
 
-/// For each thread, the ranks of its counts (own).
+/// The rank of a thread's count in such a table, if it has one.
+fn rank_in(threads: &Sequence<Sequence<Option<u16>>>, thread: usize, count: u16) -> Option<u16>
+    ensures ranked { IfSome result (λ rank. Ranked threads.now thread count rank) }
+    ensures most { IfSome result (λ rank. rank ≤ highest_version) }
+{
+    if thread >= threads.len() {
+        return None;
+    }
+    let ranks = threads.at(thread);
+    let place = usize::from(count);
+    if place >= ranks.len() {
+        return None;
+    }
+    match *ranks.at(place) {
+        Some(rank) if rank <= MAX_VERSION => Some(rank),
+        _ => None,
+    }
+}
+
+/// Whether the count 0 of each thread has the rank 0 there.
+fn have_zeros(threads: &Sequence<Sequence<Option<u16>>>) -> bool
+    ensures { IsTrue result → (t : ℕ) → t < 5 → Ranked threads.now t 0 0 }
+{
+    for thread in 0..MAX_THREADS {
+        if rank_in(threads, thread, 0) != Some(0) {
+            return false;
+        }
+    }
+    true
+}
+
+/// For each thread, the ranks of its counts. The count 0 has the rank 0 (own).
 #[derive(Drop)]
 pub struct Ranks {
     threads: Sequence<Sequence<Option<u16>>>,
 }
 
 impl Model for Ranks {
-    ghost use Rattle.std.specs.Prelude.{ℕ, List, Option};
+    ghost use Rattle.std.specs.Prelude.{ℕ, ◌<◌, List, Option};
+    ghost use Rattle.loom_views.specs.InOrder.{Ranked};
 
     ghost Value = { List (List (Option ℕ)) };
 
     ghost view = { λ r. r.threads };
+
+    ghost invariant = { λ r. (t : ℕ) → t < 5 → Ranked r.threads t 0 0 };
 }
 
 impl Ranks {
@@ -124,18 +167,7 @@ impl Ranks {
         ensures ranked { IfSome result (λ rank. Ranked self.now thread count rank) }
         ensures most { IfSome result (λ rank. rank ≤ highest_version) }
     {
-        if thread >= self.threads.len() {
-            return None;
-        }
-        let ranks = self.threads.at(thread);
-        let place = usize::from(count);
-        if place >= ranks.len() {
-            return None;
-        }
-        match *ranks.at(place) {
-            Some(rank) if rank <= MAX_VERSION => Some(rank),
-            _ => None,
-        }
+        rank_in(&self.threads, thread, count)
     }
 
     /// The rank of a count that there may be: none of none (own).
@@ -149,15 +181,8 @@ impl Ranks {
         }
     }
 
-    /// Whether the count 0 of each thread has the rank 0 (own).
-    pub fn have_zeros(&self) -> bool
-        ensures { IsTrue result → (t : ℕ) → t < 5 → Ranked self.now t 0 0 }
-    {
-        for thread in 0..MAX_THREADS {
-            if self.rank(thread, 0) != Some(0) {
-                return false;
-            }
-        }
-        true
-    }
+    /// The rank of the count 0 is 0 (own).
+    pub fn zeros(&self)
+        ensures { (t : ℕ) → t < 5 → Ranked self.now t 0 0 }
+    {}
 }

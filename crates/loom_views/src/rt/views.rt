@@ -581,6 +581,8 @@ impl Kept {
     }
 
     /// What is kept by ranks, if each count has one.
+    // Inlined, as what it calls: so what is kept is written where it is to stand, and isn't moved.
+    #[inline(always)]
     fn ranked(&self, ranks: &Ranks) -> Option<Kept>
         ensures { IfSome result (λ ranked. PairsPlaces (Ranked ranks.now) self.now ranked) }
     {
@@ -626,15 +628,17 @@ impl Views {
     }
 
     /// Views that rules see the same of: with each count of a thread by its rank among those of the thread that stand somewhere
-    /// in these. An error where memory is refused (own).
+    /// in these. The room of the spare ones is used for them. An error where memory is refused (own).
     #[tactic(auto, using(crate::proofs::Sight::InOrder::in_order_itself))]
-    pub fn ranked(&self, alloc: Global) -> Result<Views, AllocError>
+    pub fn ranked(&self, alloc: Global, spare: Views) -> Result<Views, AllocError>
         ensures { IfOk result (λ ranked. IsInOrder self.now ranked) }
     {
         let mut standing = Standing::new();
         self.stand(&mut standing);
-        let ranks = standing.ranks(alloc)?;
-        match self.by_ranks(alloc, &ranks)? {
+        let Some(ranks) = standing.ranks(alloc)? else {
+            return self.try_clone(alloc);
+        };
+        match self.by_ranks(&ranks, spare)? {
             Some(ranked) => Ok(ranked),
             None => self.try_clone(alloc),
         }
@@ -650,23 +654,22 @@ impl Views {
         stand_stamps(self.stamps.as_slice(), standing);
     }
 
-    /// The views by these ranks, if each count has one. An error where memory is refused.
-    fn by_ranks(&self, alloc: Global, ranks: &Ranks) -> Result<Option<Views>, AllocError>
+    /// The views by these ranks, if each count has one, in the room of the spare ones. An error where memory is refused.
+    fn by_ranks(&self, ranks: &Ranks, spare: Views) -> Result<Option<Views>, AllocError>
         ensures { IfOk result (λ found. IfSome found (λ ranked. PairsViews (Ranked ranks.now) self.now ranked)) }
     {
-        if !ranks.have_zeros() {
-            return Ok(None);
-        }
+        ranks.zeros();
         let (Some(threads), Some(global)) = (
             ranked_threads(&self.threads, ranks),
             self.global.ranked(ranks),
         ) else {
             return Ok(None);
         };
-        let Some(places) = ranked_places(alloc, self.places.as_slice(), ranks)? else {
+        let Views { places, stamps, .. } = spare;
+        let Some(places) = ranked_places(self.places.as_slice(), ranks, places)? else {
             return Ok(None);
         };
-        let Some(stamps) = ranked_stamps(alloc, self.stamps.as_slice(), ranks)? else {
+        let Some(stamps) = ranked_stamps(self.stamps.as_slice(), ranks, stamps)? else {
             return Ok(None);
         };
         Ok(Some(Views {
@@ -722,15 +725,16 @@ fn ranked_threads(
     ])
 }
 
-/// What is kept of objects by ranks, if each count has one. An error where memory is refused.
+/// What is kept of objects by ranks, if each count has one, in the room of what is spare. An error where memory is refused.
 fn ranked_places(
-    alloc: Global,
     places: &[Kept],
     ranks: &Ranks,
+    spare: Places,
 ) -> Result<Option<Places>, AllocError>
     ensures { IfOk result (λ found. IfSome found (λ ranked. PairAll (Ranked ranks.now) (PairsPlaces (Ranked ranks.now)) places.now ranked)) }
 {
-    let mut ranked = Places::new(alloc);
+    let mut ranked = spare;
+    ranked.clear();
     for kept in places {
         let Some(one) = kept.ranked(ranks) else {
             return Ok(None);
@@ -742,20 +746,21 @@ fn ranked_places(
 
 /// So of stamps.
 fn ranked_stamps(
-    alloc: Global,
     stamps: &[Synchronize],
     ranks: &Ranks,
+    spare: Sequence<Synchronize>,
 ) -> Result<Option<Sequence<Synchronize>>, AllocError>
     ensures { IfOk result (λ found. IfSome found (λ ranked. PairAll (Ranked ranks.now) (PairsVectors (Ranked ranks.now)) stamps.now ranked)) }
 {
-    let mut ranked = Vec::new(alloc);
+    let mut ranked = spare;
+    ranked.clear();
     for stamp in stamps {
         let Some(one) = stamp.ranked(ranks) else {
             return Ok(None);
         };
         ranked.push(one)?;
     }
-    Ok(Some(Sequence::from_vec(ranked)))
+    Ok(Some(ranked))
 }
 
 /// A copy of the views of threads.

@@ -143,6 +143,10 @@ impl VersionVec {
     pub fn ranked(&self, ranks: &Ranks) -> Option<VersionVec>
         ensures { IfSome result (λ ranked. PairsVectors (Ranked ranks.now) self.now ranked) }
     {
+        if self.word == 0 {
+            ranks.zeros();
+            return Some(*self);
+        }
         let mut ranked = *self;
         for thread in 0..MAX_THREADS {
             let rank = ranks.rank(thread, self.version(thread))?;
@@ -155,10 +159,15 @@ impl VersionVec {
 impl VersionVec {
     /// A number that depends on the counts alone (own).
     pub fn digest(&self) -> u64 {
-        let low = (self.word % 0x1_0000_0000_0000_0000) as u64;
-        let high = (self.word >> 64) as u64;
-        mixed(low, high)
+        word_digest(self.word)
     }
+}
+
+/// A number that depends on a word alone (own).
+pub fn word_digest(word: u128) -> u64 {
+    let low = (word % 0x1_0000_0000_0000_0000) as u64;
+    let high = (word >> 64) as u64;
+    mixed(mixed(low, high), 0)
 }
 
 /// A number that depends on two (own).

@@ -8,7 +8,7 @@ ghost use Rattle.loom_views.specs.Limits.{highest_version};
 
 use crate::rt::MAX_THREADS;
 use crate::rt::ranks::{Ranks, Standing};
-use crate::rt::vv::{VersionVec, lanes};
+use crate::rt::vv::{VersionVec, lanes, word_digest};
 use crate::same::Same;
 use std::marker::Model;
 
@@ -92,6 +92,11 @@ impl Touches {
         self.word = lanes::set(self.word, thread, version.unwrap_or(UNTOUCHED));
     }
 
+    /// A number that depends on them alone (own).
+    pub fn digest(&self) -> u64 {
+        word_digest(self.word)
+    }
+
     /// Their counts stand too (own).
     pub fn stand(&self, standing: &mut Standing) {
         if self.word == u128::MAX {
@@ -106,6 +111,9 @@ impl Touches {
     pub fn ranked(&self, ranks: &Ranks) -> Option<Touches>
         ensures { IfSome result (λ ranked. PairsTouches (Ranked ranks.now) self.now ranked) }
     {
+        if self.word == u128::MAX {
+            return Some(*self);
+        }
         let mut ranked = *self;
         for thread in 0..MAX_THREADS {
             let rank = ranks.rank_optional(thread, self.at(thread))?;

@@ -128,10 +128,7 @@ impl Places {
     pub fn try_clone(&self, alloc: Global) -> Result<Places, AllocError>
         ensures { IfOk result (λ copy. copy ≡ self.now) }
     {
-        let mut items = Vec::new(alloc);
-        for kept in self.as_slice() {
-            items.push(*kept)?;
-        }
+        let items = Vec::from_slice(alloc, self.as_slice())?;
         Ok(Places {
             count: items.len(),
             items: Sequence::from_vec(items),

@@ -4,4 +4,4 @@ use Rattle.loom_views.proofs.rt.views.ranked_stamps.Given as goal
 
 -- those so far pair with theirs by ranks
 abbrev pub invariant-loop-stamp : goal.invariant-loop-stamp
-invariant-loop-stamp l = PairAll (Ranked l.ranks) (PairsVectors (Ranked l.ranks)) (take l.stamp-index l.stamps) l.ranked.items
+invariant-loop-stamp l = PairAll (Ranked l.ranks) (PairsVectors (Ranked l.ranks)) (take l.stamp-index l.stamps) l.ranked
