@@ -1,5 +1,5 @@
 -- What is kept of where a run stands, and what it tells.
-use Rattle.std.specs.Prelude.{ℕ, ◌≡◌, ◌⊎◌, Bool, List, [], ◌∷◌, ◌++◌, length, slice_get, Option, Some}
+use Rattle.std.specs.Prelude.{ℕ, ◌≡◌, ◌⊎◌, Bool, List, [], ◌∷◌, ◌++◌, length, slice_get, Option, Some, None}
 use Rattle.loom_views.specs.declared.rt.views.Views.{Views}
 use Rattle.loom_views.specs.InOrder.{IsInOrder}
 use Rattle.loom_views.specs.Laws.Moves.{Leads}
@@ -55,6 +55,11 @@ module _ {D S : Type 0} where
   -- it is one more of those that were noted, come to by these choices, or none is
   abbrev pub NotesAs : Kept D S → List Choice → Noted D S → Noted D S → Type 0
   NotesAs state choices old new = ((new.states ≡ old.states ++ state ∷ []) × (new.led_by ≡ old.led_by ++ choices ∷ []) × (new.never ≡ old.never)) ⊎ (new ≡ old)
+
+  -- it was noted under this number; otherwise it is one more now, or none is
+  abbrev pub FindsOrNotes : Kept D S → List Choice → Noted D S → Option ℕ → Noted D S → Type 0
+  FindsOrNotes state choices old None new = NotesAs state choices old new
+  FindsOrNotes state choices old (Some number) new = (slice_get old.states number ≡ Some state) × (new ≡ old)
 
   -- what was noted keeps its number
   abbrev pub GrowsFrom : Noted D S → Noted D S → Type 0

@@ -6,8 +6,9 @@ pub(crate) mod threads;
 pub mod ways;
 
 ghost use Rattle.std.specs.Prelude.{◌≡◌, [], IfOk, IfSome, IsTrue, length, slice_get, Some};
-ghost use Rattle.loom_engine.specs.Covering.Kept.{HasScene, NotesAs, state_in};
+ghost use Rattle.loom_engine.specs.Covering.Kept.{FindsOrNotes, HasScene, NotesAs, state_in};
 ghost use Rattle.loom_engine.specs.Covering.Points.{yields_seen};
+ghost use Rattle.loom_views.specs.declared.rt.views.Views.{Views};
 ghost use Rattle.loom_views.specs.InOrder.{IsInOrder};
 ghost use Rattle.loom_engine.specs.Path.Route.{chosen};
 
@@ -23,6 +24,7 @@ use loom_objects::rt::scene::Scene;
 use loom_objects::rt::schedule::{Yields, no_yields};
 use loom_objects::rt::thread::Thread;
 use loom_views::rt::views::Views;
+use loom_views::rt::vv::mixed;
 use loom_views::same::{Same, are_same};
 use loom_views::sequence::Sequence;
 use std::alloc::{AllocError, Global};
@@ -159,6 +161,10 @@ pub struct States<D, B> {
     before: Vec<usize>,
     // the last one of each list
     last: Vec<usize>,
+    // the digest of each one's views
+    digests: Vec<u64>,
+    // views that were written for a look-up, in whose room the next one writes its own
+    spare: Option<Views>,
     most: usize,
     never_switches: bool,
     alloc: Global,
@@ -185,6 +191,8 @@ impl<D: Data + Same, B: Body + Same> States<D, B> {
             led_by: Sequence::new(alloc),
             before: Vec::new(alloc),
             last,
+            digests: Vec::new(alloc),
+            spare: None,
             most,
             never_switches,
             alloc,
@@ -205,24 +213,83 @@ impl<D: Data + Same, B: Body + Same> States<D, B> {
         self.led_by.as_slice()
     }
 
-    /// The views of the run by the ranks of their counts, by which its state is known. An error where memory is refused.
-    pub fn ranked_views(&self, execution: &Execution<D>) -> Result<Views, AllocError>
-        ensures { IfOk result (λ views. IsInOrder execution.now.run.state.scene.views views) }
+    /// The number of the state that the run is in, which came to it along the path, if it was noted. Otherwise it is noted, if there may
+    /// be one more. It is known by views by the ranks of their counts, in place of its own. An error where memory is refused.
+    pub fn look_up(
+        &mut self,
+        execution: &Execution<D>,
+        bodies: &[B],
+        path: &Path,
+    ) -> Result<Option<usize>, AllocError>
+        ensures { IfOk result (λ found. (views : Views) × IsInOrder execution.now.run.state.scene.views views
+            × FindsOrNotes (state_in self.old.never execution.now.run bodies.now views) (chosen path.now) self.old found self.new) }
     {
-        execution.scene().views().ranked(self.alloc)
+        let spare = self.take_spare();
+        let views = execution.scene().views().ranked(self.alloc, spare)?;
+        let found = self.find_or_note(execution, bodies, &views, path)?;
+        self.keep_spare(views);
+        Ok(found)
     }
 
-    /// The number of the state that the run is in, if it was noted, with these views in place of its own.
-    pub fn find(&self, execution: &Execution<D>, bodies: &[B], views: &Views) -> Option<usize>
+    /// The spare views, or new ones.
+    fn take_spare(&mut self) -> Views
+        ensures { self.new ≡ self.old }
+    {
+        match self.spare.take() {
+            Some(views) => views,
+            None => Views::new(self.alloc),
+        }
+    }
+
+    /// These views are the spare ones.
+    fn keep_spare(&mut self, views: Views)
+        ensures { self.new ≡ self.old }
+    {
+        self.spare = Some(views);
+    }
+
+    /// The number of the state that the run is in, with these views in place of its own, if it was noted. Otherwise it is noted, if there
+    /// may be one more. An error where memory is refused.
+    fn find_or_note(
+        &mut self,
+        execution: &Execution<D>,
+        bodies: &[B],
+        views: &Views,
+        path: &Path,
+    ) -> Result<Option<usize>, AllocError>
+        ensures { IfOk result (λ found. FindsOrNotes (state_in self.old.never execution.now.run bodies.now views.now) (chosen path.now) self.old found self.new) }
+    {
+        let digest = views.digest();
+        match self.find(execution, bodies, views, digest) {
+            Some(number) => Ok(Some(number)),
+            None => {
+                self.note(execution, bodies, views, digest, path)?;
+                Ok(None)
+            }
+        }
+    }
+
+    /// The number of the state that the run is in, if it was noted, with these views in place of its own, whose digest is this.
+    fn find(
+        &self,
+        execution: &Execution<D>,
+        bodies: &[B],
+        views: &Views,
+        digest: u64,
+    ) -> Option<usize>
         ensures { IfSome result (λ number. slice_get self.now.states number ≡ Some (state_in self.now.never execution.now.run bodies.now views.now)) }
     {
-        let mut number = self.last_of(list_of(views));
+        let mut number = self.last_of(list_of(digest));
         for _ in 0..self.states.len() {
             if number == 0 || number > self.states.len() {
                 return None;
             }
-            let state = self.states.at(number - 1);
-            if state.is_at(execution, bodies, views, self.never_switches) {
+            if self.has_digest(number - 1, digest)
+                && self
+                    .states
+                    .at(number - 1)
+                    .is_at(execution, bodies, views, self.never_switches)
+            {
                 return Some(number - 1);
             }
             number = self.one_before(number - 1);
@@ -230,31 +297,42 @@ impl<D: Data + Same, B: Body + Same> States<D, B> {
         None
     }
 
-    /// Notes the state of the run, which came to it along the path, with these views in place of its own, if there may be one more. An
-    /// error where memory is refused.
-    pub fn note(
+    /// Notes the state of the run, which came to it along the path, with these views in place of its own, whose digest is this, if
+    /// there may be one more. An error where memory is refused.
+    fn note(
         &mut self,
         execution: &Execution<D>,
         bodies: &[B],
-        views: Views,
+        views: &Views,
+        digest: u64,
         path: &Path,
     ) -> Result<(), AllocError>
-        ensures { IfOk result (λ _. NotesAs (state_in self.old.never execution.now.run bodies.now views) (chosen path.now) self.old self.new) }
+        ensures { IfOk result (λ _. NotesAs (state_in self.old.never execution.now.run bodies.now views.now) (chosen path.now) self.old self.new) }
     {
         if self.states.len() >= self.most {
             return Ok(());
         }
-        let list = list_of(&views);
+        let list = list_of(digest);
+        let views = views.try_clone(self.alloc)?;
         let state = State::of(self.alloc, execution, bodies, views, self.never_switches)?;
         let choices = path.choices(self.alloc)?;
         self.led_by.push(Sequence::from_vec(choices))?;
         let before = self.last_of(list);
         self.before.push(before)?;
+        self.digests.push(digest)?;
         self.states.push(state)?;
         if let Some(last) = self.last.get_mut(list) {
             *last = self.states.len();
         }
         Ok(())
+    }
+
+    /// Whether the state at this place has this digest.
+    fn has_digest(&self, place: usize, digest: u64) -> bool {
+        match self.digests.get(place) {
+            Some(other) => *other == digest,
+            None => false,
+        }
     }
 
     /// The number of the last state of a list, counted from 1, or 0.
@@ -274,7 +352,7 @@ impl<D: Data + Same, B: Body + Same> States<D, B> {
     }
 }
 
-/// The list in which a state with these views is.
-fn list_of(views: &Views) -> usize {
-    (views.digest() % 65_536) as usize
+/// The list in which a state with views of this digest is: by its highest bits, which depend on all of it.
+fn list_of(digest: u64) -> usize {
+    (mixed(mixed(digest, 0), 0) >> 48) as usize
 }

@@ -201,10 +201,8 @@ fn look_up<D: Data + Same, B: Body + Same>(
     if !path.is_used_up() {
         return Ok(Found::New);
     }
-    let views = states.ranked_views(execution)?;
-    if let Some(number) = states.find(execution, bodies, &views) {
-        return Ok(Found::Known(number));
+    match states.look_up(execution, bodies, path)? {
+        Some(number) => Ok(Found::Known(number)),
+        None => Ok(Found::New),
     }
-    states.note(execution, bodies, views, path)?;
-    Ok(Found::New)
 }
