@@ -38,3 +38,7 @@ pub mod Led
 pub mod UnderWay
 pub mod Coarser
 pub mod Rounds
+pub mod Spread
+pub mod Returning
+pub mod Spreading
+pub mod Adding

@@ -16,3 +16,4 @@ pub mod Parts
 pub mod Kept
 pub mod UnderWay
 pub mod Lost
+pub mod Spread

@@ -89,9 +89,12 @@ module _ {D S : Type 0} where
           (yields_twice (is_on m.course.exploring) (without_turn (is_on m.course.exploring) m.course.world).yields)
       one false m = refl
 
-      by : (x : Bool) (last : Option (Moment D S)) → (option_map drops (option_map (state_of (seen_by x)) last), s.since) ≡ (option_map (state_of (seen_by true)) last, s.since)
+      beside : Option (State S (Sight D (SightOfPoints ⊎ Points))) → Key D S
+      beside last = (last, s.since)
+
+      by : (x : Bool) (last : Option (Moment D S)) → beside (option_map drops (option_map (state_of (seen_by x)) last)) ≡ beside (option_map (state_of (seen_by true)) last)
       by x None = refl
-      by x (Some m) = ap (λ t. (Some t, s.since)) (one x m)
+      by x (Some m) = ap (λ (t : State S (Sight D (SightOfPoints ⊎ Points))). beside (Some t)) (one x m)
 
   module _ (next : Meaning D S) (explores : Bool) (max_threads max_steps : ℕ) (body : S) where
     pub key_coarser : (x y : Bool) → (x ≡ true → y ≡ true) → (c : List Choice) → coarser y (state_after (seen_by x) next explores max_threads max_steps body c) ≡ state_after (seen_by y) next explores max_threads max_steps body c

@@ -10,7 +10,7 @@ use Rattle.loom_engine.proofs.Walk.Driven.{driven_law}
 use Rattle.loom_views.specs.declared.rt.failure.FailureKind.{FailureKind}
 use Rattle.loom_engine.specs.Covering.World.{World, IsCalled, Ends, IsStopped, IsLimit}
 use Rattle.loom_engine.specs.Covering.Sound.{OffersSame, MeetsSame, Unless, IsSound}
-use Rattle.loom_engine.specs.Covering.Covered.{IsGiven, IsEnd, ended, met, Remembers, Covers, CoverLaw}
+use Rattle.loom_engine.specs.Covering.Covered.{AreTried, IsGiven, IsEnd, ended, met, Remembers, Covers, CoverLaw}
 
 -- ---- paths that runs left
 
@@ -23,6 +23,10 @@ left_rests p left (one_run _ k later rest l h d) q (inr i) before n e = left_res
 some_left : (p : List Stored) (left : List (List Stored)) → Driven p left → (q : List Stored) × IsOneOf q left
 some_left p left (last_run _ q l h) = (q, inl refl)
 some_left p left (one_run _ q later rest l h d) = (q, inl refl)
+
+-- rounds one after another have tried what is to be tried
+pub driven_tries : (left : List (List Stored)) → Driven [] left → AreTried left
+driven_tries left d = record { some = some_left [] left d; rests = left_rests [] left d; tried = driven_law left d }
 
 unfoldable pub Tries : List (List Stored) → List Choice → Choice → Type 0
 Tries left before o = (x : List Stored) × IsOneOf x left × Begins (before ++ o ∷ []) (choices x)
@@ -63,7 +67,7 @@ module _ {A K : Type 0} (limits : FailureKind → Bool) (w v : World A) (key oth
   pub path_called : (q : List Stored) → IsOneOf q left → IsCalled w (choices q)
   path_called q i before o after g =
       let z = chooses_node q before o after g in
-      let rest = left_rests [] left r.driven q i before z.0 z.1 in
+      let rest = r.driven.rests q i before z.0 z.1 in
       (z.0.made, r.meets q i before z.0 z.1, subst (λ u. Among u z.0.made.options) z.2 (rest.closed z.0.present (λ e. cc (rest.active, e))), λ f. sym z.2 ∙ (rest.fixed f).0)
 
   pub node_called : (q : List Stored) → IsOneOf q left → (b : List Choice) (n : Stored) → node_at q b ≡ Some n → IsCalled w b
@@ -76,7 +80,7 @@ module _ {A K : Type 0} (limits : FailureKind → Bool) (w v : World A) (key oth
   tried q i b k o at am only = go k.made.exploring refl
     where
       rest : IsAtRest k
-      rest = left_rests [] left r.driven q i b k at
+      rest = r.driven.rests q i b k at
 
       to_be_tried : k.made.exploring ≡ true → (s : Status) → k.status o ≡ s → ToBeTried (k.status o)
       to_be_tried e Closed h = absurd (rest.opened o am h)
@@ -86,7 +90,7 @@ module _ {A K : Type 0} (limits : FailureKind → Bool) (w v : World A) (key oth
       to_be_tried e Visited h = inr (inr h)
 
       go : (x : Bool) → k.made.exploring ≡ x → (x : List Stored) × IsOneOf x left × Begins (b ++ o ∷ []) (choices x)
-      go true e = driven_law left r.driven q i b k o at e (to_be_tried e (k.status o) refl)
+      go true e = r.driven.tried q i b k o at e (to_be_tried e (k.status o) refl)
       go false e =
           let a = node_chooses q b k at in
           let chosen : k.present ≡ o = (rest.fixed e).0 ∙ sym (only e) in
@@ -160,7 +164,7 @@ module _ {A K : Type 0} (limits : FailureKind → Bool) (w v : World A) (key oth
       subst Reached next (all_on more (c ++ o ∷ []) called (one_on c o a.0 (called_front v (c ++ o ∷ []) more called) a.1 a.2 a.3 d))
 
   pub at_start : Reached []
-  at_start = go (some_left [] left r.driven) sound.start
+  at_start = go r.driven.some sound.start
     where
       go : (q : List Stored) × IsOneOf q left → Unless limits w v [] [] (key [] ≡ other []) → Reached []
       go (q, i) (inl s) = absurd (unstopped q i [] (choices q) refl s)

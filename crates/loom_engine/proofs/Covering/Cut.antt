@@ -25,7 +25,7 @@ use Rattle.loom_views.specs.declared.rt.failure.FailureKind.TheVariants.{TooMany
 use Rattle.loom_engine.specs.Covering.World.{world_of}
 use Rattle.loom_engine.specs.Covering.Covered.{IsGiven, SkipsNone, IsEnd, ended, met as was_met, Remembers}
 use Rattle.loom_engine.specs.Covering.Cut.{cut, with_run, IsStop, Checks, last_check, one_check, CheckLaw, FailLaw}
-use Rattle.loom_engine.proofs.Covering.Covered.{cover_law}
+use Rattle.loom_engine.proofs.Covering.Covered.{cover_law, driven_tries}
 use Rattle.loom_engine.proofs.Covering.Left.{none_visited, none_skipped, step_rests, step_skips_none, empty_skips_none}
 use Rattle.loom_engine.proofs.Covering.Worlds.{TriesAll, met_more, outcome_more, world_ends, tries_all}
 
@@ -301,7 +301,7 @@ module _ {A : Type 0} (room : ℕ) (adds : Marking) (tree : Tree A) (sound : IsS
         go (inl e) = absurd (cc e)
         go (inr e) = e
 
-    end_of : (stop : List Choice → Bool) (p q : List Stored) (came : Option A) (runs : List (List Choice × A)) → IsStop key all p stop → Round stop p q (Ok came) → Ended (with_run (choices q) came runs) q
+    pub end_of : (stop : List Choice → Bool) (p q : List Stored) (came : Option A) (runs : List (List Choice × A)) → IsStop key all p stop → Round stop p q (Ok came) → Ended (with_run (choices q) came runs) q
     end_of stop p q None runs s r = let z = s.noted (choices q) r.comes in let a = r.asks refl in was_met a.0 a.1 z.0 z.2 z.3 z.1 z.4 z.5
     end_of stop p q (Some value) runs s r =
         let came = in_world (choices q) value r.comes in ended value (world_ends tree (choices q) (Ok value) came) came (inl (refl, refl))
@@ -364,7 +364,7 @@ module _ {A : Type 0} (room : ℕ) (adds : Marking) (tree : Tree A) (sound : IsS
     remembers left runs checks same =
         let k = known [] left runs checks (empty_rests (machine_of (whole_search room) adds tree)) empty_skips_none in
         record {
-          driven = k.driven;
+          driven = driven_tries left k.driven;
           tries = k.tries;
           meets = λ q i before n h. met_more room tree before n.made ((k.rests q i).meets before n h);
           ends = λ q i. subst (λ a. IsEnd (world_of tree) key a runs q) same (k.ends q i);

@@ -185,7 +185,7 @@ module _ {D V : Type 0} (limits : FailureKind → Bool) (seen : Points → V) (s
         (λ a b i f. state_then (writes n (fit atomic.numbers (changed atomic.numbers change a.value)) order slot (with_points a.points w)) (writes n (fit atomic.numbers (changed atomic.numbers change b.value)) order slot (with_points b.points (with_other q k y w))) _ _
         (subst (λ x. FollowsAlone (writes n (fit atomic.numbers (changed atomic.numbers change a.value)) order slot (with_points a.points w)) (writes n (fit atomic.numbers (changed atomic.numbers change x)) order slot (with_other b.points k y w))) i
         (writes_so n (fit atomic.numbers (changed atomic.numbers change a.value)) order slot (with_points a.points w) b.points k y (f, e.1)))
-        (λ u p j g. (ap (λ x. reply.Value x) i, (_, _, _, g, refl)))))
+        (λ u p j z g. (ap (λ x. reply.Value x) i, (_, _, _, g, refl)))))
 
     exchanges_if_so : (is_expected : Bool) (n new : ℕ) (exchange : Exchange) (slot read : ℕ) (w : World D) (q : Points) (k : ℕ) (y : List ℕ) → SeenSame w q y
         → Follows (exchanges_if is_expected n new exchange slot read w) (exchanges_if is_expected n new exchange slot read (with_other q k y w))

@@ -197,6 +197,14 @@ module _ (limits : FailureKind → Bool) (are : AreLimits limits) where
             grown_children n (slice_get e.order.threads t) (slice_get f.order.threads t) (both_there e.order.threads f.order.threads t g.ordered)
             ∙ ap₂ (λ x y. length (children x (slice_get f.order.threads y))) i j
 
+    -- states that are alike where the search explores, or where it doesn't, are so in both
+    abbrev InBoth : Type 0
+    InBoth = (explores to : Bool) (w v : World D) → Alike explores w v → Alike to w v
+
+    -- it is so, or the operation switches nothing
+    abbrev Keeps : Entry D → Type 0
+    Keeps entry = InBoth ⊎ IsNoSwitch entry
+
     module _ {S : Type 0} where
       abbrev Segments : Tree (Next D S) → Tree (Next D S) → Type 0
       Segments t u = AreAlike limits NextAlike t u
@@ -222,14 +230,6 @@ module _ (limits : FailureKind → Bool) (are : AreLimits limits) where
           (λ (a, e) (b, f) g. stands_alike bodies further_branches left left_too e f g.1)
       woken_alike left left_too bodies n c d (choice.Thread t) h = inl refl
       woken_alike left left_too bodies n c d (choice.Load slot) h = inl refl
-
-      -- states that are alike where the search explores, or where it doesn't, are so in both
-      abbrev InBoth : Type 0
-      InBoth = (explores to : Bool) (w v : World D) → Alike explores w v → Alike to w v
-
-      -- it is so, or the operation switches nothing
-      abbrev Keeps : Entry D → Type 0
-      Keeps entry = InBoth ⊎ IsNoSwitch entry
 
       op_keeps : (op : Op D S) (w : World D) → InBoth ⊎ (is_switch op.request ≡ false) → Answers (λ (x : Entry D × World D). Keeps x.0) (counted (plain op) w)
       op_keeps op w (inl both) = every (counted (plain op) w)

@@ -201,7 +201,7 @@ position_same [] [] h t = refl
 position_same [] (y ∷ ys) h t = absurd h
 position_same (x ∷ xs) [] h t = absurd h
 position_same (x ∷ xs) (y ∷ ys) h t =
-    ap₂ (λ (b : Bool) (o : Option ℕ). cond b (Some t) o) (yielding_is x ∙ ap yielding_of h.0 ∙ sym (yielding_is y)) (position_same xs ys h.1 (suc t))
+    ap₂ (λ (b : Bool) (o : Option ℕ). cond b (Some t) o) (yielding_is x ∙ ap yielding_of h.0 ∙ sym (yielding_is y)) (position_same xs ys h.1 (t + 1))
 
 least_able : (standings : List (Ability × ℕ)) (k : ℕ) → fewest None 0 standings ≡ Some k → is_able (slice_get standings k) ≡ true
 least_able standings k e = by (fewest_able None 0 standings k e)

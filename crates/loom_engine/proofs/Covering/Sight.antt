@@ -137,7 +137,7 @@ module _ {D S : Type 0} (next : Meaning D S) (explores : Bool) (max_threads : �
         (subst (λ k. IsSound limits (world_of (runs (unswitched next) explores max_threads one body)) (world_of (runs (unswitched next) explores max_threads two body)) (state_after (seen_by true) (unswitched next) explores max_threads one body) k)
         (states_same next body never explores max_threads two (seen_by true)) failing_sound)))
 
-    states_sound : (never : Bool) → IsKnown never next body → Sound limits world (key never) one two
+    pub states_sound : (never : Bool) → IsKnown never next body → Sound limits world (key never) one two
     states_sound true known = unyielding_sound (known refl)
     states_sound false known =
         states_law limits (seen_by false) (λ x (w : World D). sight seen w) next explores max_threads one two body are (seen_tells limits are) (λ state answer. inl (λ x to w v e. e)) (λ x. refl)

@@ -15,9 +15,9 @@ use Rattle.loom_objects.specs.declared.rt.run.Passed.{Passed}
 use Rattle.loom_objects.specs.declared.rt.run.Passed.TheVariants as passed
 use Rattle.loom_objects.specs.Exploring.{is_switch, switched}
 use Rattle.loom_objects.specs.Operation.Labelled.{Op}
-use Rattle.loom_objects.specs.Operation.Plain.{started}
+use Rattle.loom_objects.specs.Operation.Plain.{plain, started}
 use Rattle.loom_objects.specs.Operation.Switching.{ComesOf, NeverSwitches, becomes, itself, starts}
-use Rattle.loom_objects.specs.Rules.Steps.{enters_wait}
+use Rattle.loom_objects.specs.Rules.Steps.{begins, enters_wait}
 use Rattle.loom_objects.specs.Tree.Tree.{Tree, Gives, Fails, Closes, Asks, ◌>>=◌, came, found}
 use Rattle.loom_objects.specs.World.{World}
 use Rattle.loom_engine.specs.Runs.Body.{Meaning, handed, play, runs, with_child}
@@ -155,7 +155,8 @@ module _ {D S : Type 0} (next : Meaning D S) (first : S) (never : NeverSwitches 
       by : (after : S) (op : Op D S) → AllCome (with_child (slice_set bodies t after) (started op)) → AllStand (handing (to_schedule next left) left bodies c t (after, op))
       by after op now =
           let more : List S = with_child (slice_set bodies t after) (started op) in
-          stand_then _ _ (λ begun. entered_stand left more now (to_schedule next left more) (λ d u told. ih more d u told now) begun.0 (grown_from c.world begun.1))
+          stand_then (carried c (begins (plain op) c.world)) (λ begun. entered (to_schedule next left more) left more (begun.0, grown_from c.world begun.1))
+          (λ begun. entered_stand left more now (to_schedule next left more) (λ d u told. ih more d u told now) begun.0 (grown_from c.world begun.1))
 
   schedule_stand : (left : ℕ) (bodies : List S) (c : Course D) (t : ℕ) (answer : Reply D) → AllCome bodies → AllStand (to_schedule next left bodies c t answer)
   unfolding to_schedule

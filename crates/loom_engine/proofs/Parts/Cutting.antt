@@ -11,14 +11,16 @@ use Rattle.loom_engine.specs.Walk.Lists.{Member}
 use Rattle.loom_engine.specs.declared.rt.path.node.Node.{Node}
 use Rattle.loom_engine.specs.declared.rt.parts.Part.{Part as Kept}
 use Rattle.loom_engine.specs.Path.Nodes.{seen, stored}
-use Rattle.loom_engine.specs.Parts.Cuts.{IsBelow, IsTried, AreTaken, AreOpen}
-use Rattle.loom_engine.specs.Parts.Works.{Work, raise}
+use Rattle.loom_engine.specs.Parts.Cuts.{Part, IsBelow, IsTried, AreTaken, AreOpen}
+use Rattle.loom_engine.specs.Parts.Works.{Work}
 use Rattle.loom_engine.specs.Parts.Openings.{IsOpen, Opens, OpensAt, EachNode, AreOpenings, chosen_to, key_at, EachOpening, at_place}
 use Rattle.loom_engine.specs.Parts.Keeping.{part_of, views, keys, issued_onto}
 use Rattle.loom_engine.proofs.Parts.Works.{order_of}
-use Rattle.loom_engine.proofs.Parts.Keeping.{views_snoc, stands_at}
+use Rattle.loom_engine.proofs.Parts.Keeping.{AreSteps, spread_steps, stands_at, views_snoc, work_steps}
 use Rattle.loom_engine.proofs.Parts.Gathering.{chosen_listed, of_key}
-use Rattle.loom_engine.proofs.Parts.Giving.{Each, Now, fronted}
+use Rattle.loom_engine.proofs.Parts.Giving.{Each, HandsEach, Now, fronted}
+use Rattle.loom_engine.specs.Covering.Spread.{Spread}
+use Rattle.loom_engine.proofs.Covering.Spread.{holds}
 
 -- ---- what was tried
 
@@ -98,41 +100,50 @@ low_of nodes place b c (x ∷ list) e = ((c, [], ap (λ t. t ++ c ∷ []) (sym e
 module _ (xs : List Kept) (ts : List (Vec Choice Global)) (i : ℕ) (part : Kept) (node : Node) (taken : List Choice) (found : List Node) (at : slice_get xs i ≡ Some part)
     (past : slice_get part.path.nodes (length part.base.items) ≡ Some node)
     (tried : (o : Choice) → IsOption o taken ↔ IsTried (seen node) o) (are : AreOpenings node found)
-    (ps qs : List Kept) (us vs : List (Vec Choice Global)) (removed : ps ≡ remove xs i) (issued : keys us ≡ issued_onto part.base.items taken (keys ts))
-    (each : Each ps us qs vs part.path.nodes (map (at_place (length part.base.items)) found))
-    (m : Machine) (made : List (List Choice)) (w : IsMachine m) (now : Now m made xs ts) where
-  pub cut_goes : (x : Kept) → x.path.nodes ≡ part.path.nodes → x.base.items ≡ part.base.items ++ (seen node).present ∷ [] → Now m made (qs ++ x ∷ []) vs
-  cut_goes x same base = (now.0, subst (λ t. Work m made t now.0 (keys vs) []) (ap (λ t. t ∷ views qs) (sym same_part) ∙ sym (views_snoc qs x [])) handed)
+    (ps qs : List Kept) (us vs : List (Vec Choice Global)) (removed : ps ≡ remove xs i) (issued : keys us ≡ issued_onto part.base.items taken (keys ts)) where
+  -- whoever makes the runs
+  module _ (P : List Part → List Part → List (List Choice) → List (List Choice) → Type 0) (steps : AreSteps P) (each : HandsEach P ps us qs vs part.path.nodes (map (at_place (length part.base.items)) found))
+      (spent : List Part) (begins : (e : List Choice) × (choices (stored part.path.nodes) ≡ part.base.items ++ e)) (now : P (views xs) spent (keys ts) []) where
+    pub cut_so : (x : Kept) → x.path.nodes ≡ part.path.nodes → x.base.items ≡ part.base.items ++ (seen node).present ∷ [] → P (views (qs ++ x ∷ [])) spent (keys vs) []
+    cut_so x same base = subst (λ t. P t spent (keys vs) []) (ap (λ t. t ∷ views qs) (sym same_part) ∙ sym (views_snoc qs x [])) handed
+      where
+        here : chosen_to (length part.base.items) part.path.nodes ≡ part.base.items
+        here = chosen_front part.base.items begins.0 part.path.nodes begins.1
+
+        there : node_at (stored part.path.nodes) part.base.items ≡ Some (seen node)
+        there = subst (λ t. node_at (stored part.path.nodes) t ≡ Some (seen node)) here (stands_at part.path.nodes (length part.base.items) node past).0
+
+        raised : P (record { base = part.base.items ++ (seen node).present ∷ []; path = stored part.path.nodes } ∷ views ps) spent (keys us) (map (key_at part.path.nodes) (map (at_place (length part.base.items)) found))
+        raised =
+            subst (λ t. P (record { base = part.base.items ++ (seen node).present ∷ []; path = stored part.path.nodes } ∷ views ps) spent t (map (key_at part.path.nodes) (map (at_place (length part.base.items)) found)))
+            (sym (issued ∙ issued_join part.base.items taken (keys ts)))
+            (subst (λ t. P (record { base = part.base.items ++ (seen node).present ∷ []; path = stored part.path.nodes } ∷ views ps) spent (issued_onto part.base.items taken [] ++ keys ts) t)
+            (append-nil (map (key_at part.path.nodes) (map (at_place (length part.base.items)) found)))
+            (steps.raises part.base.items (stored part.path.nodes) (seen node) (views ps) spent (keys ts) [] (issued_onto part.base.items taken [])
+            (map (key_at part.path.nodes) (map (at_place (length part.base.items)) found)) (fronted xs ts i part ps at removed P steps spent now) there
+            (taken_are part.base.items taken (seen node) tried) (open_are part.path.nodes node (length part.base.items) part.base.items found here are)))
+
+        handed : P (record { base = part.base.items ++ (seen node).present ∷ []; path = stored part.path.nodes } ∷ views qs) spent (keys vs) []
+        handed =
+            each (record { base = part.base.items ++ (seen node).present ∷ []; path = stored part.path.nodes } ∷ []) spent
+            (record { base = part.base.items ++ (seen node).present ∷ []; path = stored part.path.nodes }) raised (record { known = inl (inl refl); path = refl })
+            (low_of part.path.nodes (length part.base.items) part.base.items (seen node).present found here)
+
+        same_part : part_of x ≡ record { base = part.base.items ++ (seen node).present ∷ []; path = stored part.path.nodes }
+        same_part = ap₂ (λ (t : List Choice) (p : List Stored). record { base = t; path = p }) base (ap stored same)
+
+  -- one machine does
+  pub cut_goes : (each : Each ps us qs vs part.path.nodes (map (at_place (length part.base.items)) found)) (m : Machine) (made : List (List Choice)) → IsMachine m → (now : Now m made xs ts)
+      → (x : Kept) → x.path.nodes ≡ part.path.nodes → x.base.items ≡ part.base.items ++ (seen node).present ∷ [] → Now m made (qs ++ x ∷ []) vs
+  cut_goes each m made w now x same base = (now.0, cut_so (Work m made) (work_steps m made) (each m made) now.0 begins now.1 x same base)
     where
-      front : Work m made (part_of part ∷ views ps) now.0 (keys ts) []
-      front = fronted xs ts i part ps at removed m made now
-
       begins : (e : List Choice) × (choices (stored part.path.nodes) ≡ part.base.items ++ e)
-      begins = (order_of m made (part_of part ∷ views ps) now.0 (keys ts) [] w front (part_of part) (inl refl)).begins
+      begins =
+          (order_of m made (part_of part ∷ views ps) now.0 (keys ts) [] w (fronted xs ts i part ps at removed (Work m made) (work_steps m made) now.0 now.1) (part_of part) (inl refl)).begins
 
-      here : chosen_to (length part.base.items) part.path.nodes ≡ part.base.items
-      here = chosen_front part.base.items begins.0 part.path.nodes begins.1
-
-      there : node_at (stored part.path.nodes) part.base.items ≡ Some (seen node)
-      there = subst (λ t. node_at (stored part.path.nodes) t ≡ Some (seen node)) here (stands_at part.path.nodes (length part.base.items) node past).0
-
-      raised : Work m made (record { base = part.base.items ++ (seen node).present ∷ []; path = stored part.path.nodes } ∷ views ps) now.0 (keys us)
-          (map (key_at part.path.nodes) (map (at_place (length part.base.items)) found))
-      raised =
-          subst (λ t. Work m made (record { base = part.base.items ++ (seen node).present ∷ []; path = stored part.path.nodes } ∷ views ps) now.0 t
-          (map (key_at part.path.nodes) (map (at_place (length part.base.items)) found)))
-          (sym (issued ∙ issued_join part.base.items taken (keys ts)))
-          (subst (λ t. Work m made (record { base = part.base.items ++ (seen node).present ∷ []; path = stored part.path.nodes } ∷ views ps) now.0 (issued_onto part.base.items taken [] ++ keys ts) t)
-          (append-nil (map (key_at part.path.nodes) (map (at_place (length part.base.items)) found)))
-          (raise made part.base.items (stored part.path.nodes) (seen node) (views ps) now.0 (keys ts) [] (issued_onto part.base.items taken [])
-          (map (key_at part.path.nodes) (map (at_place (length part.base.items)) found)) front there
-          (taken_are part.base.items taken (seen node) tried) (open_are part.path.nodes node (length part.base.items) part.base.items found here are)))
-
-      handed : Work m made (record { base = part.base.items ++ (seen node).present ∷ []; path = stored part.path.nodes } ∷ views qs) now.0 (keys vs) []
-      handed =
-          each m made (record { base = part.base.items ++ (seen node).present ∷ []; path = stored part.path.nodes } ∷ []) now.0
-          (record { base = part.base.items ++ (seen node).present ∷ []; path = stored part.path.nodes }) raised (record { known = inl (inl refl); path = refl })
-          (low_of part.path.nodes (length part.base.items) part.base.items (seen node).present found here)
-
-      same_part : part_of x ≡ record { base = part.base.items ++ (seen node).present ∷ []; path = stored part.path.nodes }
-      same_part = ap₂ (λ (t : List Choice) (p : List Stored). record { base = t; path = p }) base (ap stored same)
+  -- or each is made in its own way
+  pub cut_spreads : (m : Machine) (left : List (List Stored)) (each : HandsEach (Spread m left) ps us qs vs part.path.nodes (map (at_place (length part.base.items)) found)) (spent : List Part)
+      → Spread m left (views xs) spent (keys ts) [] → (x : Kept) → x.path.nodes ≡ part.path.nodes → x.base.items ≡ part.base.items ++ (seen node).present ∷ [] → Spread m left (views (qs ++ x ∷ [])) spent (keys vs) []
+  cut_spreads m left each spent now x same base =
+      cut_so (Spread m left) (spread_steps m left) each spent
+      ((holds m left (part_of part ∷ views ps) spent (keys ts) [] (fronted xs ts i part ps at removed (Spread m left) (spread_steps m left) spent now)).kept (part_of part) (inl (inl refl))).begins now x same base

@@ -12,7 +12,7 @@ use Rattle.loom_engine.specs.declared.rt.path.opening.Opening.{Opening}
 use Rattle.loom_engine.specs.declared.rt.parts.Part.{Part as Kept}
 use Rattle.loom_engine.specs.Path.Nodes.{stored}
 use Rattle.loom_engine.specs.Parts.Cuts.{Part, IsBelow}
-use Rattle.loom_engine.specs.Parts.Works.{view, Work, turn}
+use Rattle.loom_engine.specs.Parts.Works.{view, Work}
 use Rattle.loom_engine.specs.Parts.Slices.{Slice, Ended}
 use Rattle.loom_engine.specs.Parts.Openings.{chosen_to, key_at, EachOpening, OpensAt, IsLow, AreLow}
 use Rattle.loom_engine.specs.Parts.Keeping.{part_of, views_onto, views, keys, Stands}
@@ -20,13 +20,18 @@ use Rattle.loom_engine.proofs.Parts.Lists.{bases}
 use Rattle.loom_engine.proofs.Parts.Works.{work_law, order_of, done_order}
 use Rattle.loom_engine.proofs.Parts.Slices.{slice_law, left_begins, done_begins}
 use Rattle.loom_engine.proofs.Parts.Disjoint.{disjoint_law}
-use Rattle.loom_engine.proofs.Parts.Keeping.{views_snoc, views_join, among}
+use Rattle.loom_engine.proofs.Parts.Keeping.{AreSteps, among, views_join, views_snoc, work_steps}
 use Rattle.loom_engine.proofs.Parts.Gathering.{below_of, gathers_of}
 
-each_below : (b e : List Choice) (nodes : List Node) (list : List Opening) → choices (stored nodes) ≡ b ++ e → EachOpening (λ opening. OpensAt nodes opening × IsLow (length b) nodes opening) list
+pub each_below : (b e : List Choice) (nodes : List Node) (list : List Opening) → choices (stored nodes) ≡ b ++ e → EachOpening (λ opening. OpensAt nodes opening × IsLow (length b) nodes opening) list
     → EachOpening (λ opening. IsBelow (chosen_to opening.place nodes) b) list
 each_below b e nodes [] h l = tt
 each_below b e nodes (x ∷ list) h l = (below_of b e nodes x.place h l.0.1.0, each_below b e nodes list h l.1)
+
+-- these openings of the path are handed out
+abbrev pub HandsEach : (List Part → List Part → List (List Choice) → List (List Choice) → Type 0) → List Kept → List (Vec Choice Global) → List Kept → List (Vec Choice Global) → List Node → List Opening → Type 0
+HandsEach P ps ts qs us nodes list = (out spent : List Part) (source : Part) → P (out ++ views ps) spent (keys ts) (map (key_at nodes) list) → Stands out spent nodes source
+    → EachOpening (λ opening. IsBelow (chosen_to opening.place nodes) source.base) list → P (out ++ views qs) spent (keys us) []
 
 abbrev pub Each : List Kept → List (Vec Choice Global) → List Kept → List (Vec Choice Global) → List Node → List Opening → Type 0
 Each ps ts qs us nodes list = (m : Machine) (made : List (List Choice)) (out spent : List Part) (source : Part) → Work m made (out ++ views ps) spent (keys ts) (map (key_at nodes) list)
@@ -37,11 +42,11 @@ Now m made ps ts = (spent : List Part) × Work m made (views ps) spent (keys ts)
 
 -- the part comes to the front
 pub fronted : (xs : List Kept) (ts : List (Vec Choice Global)) (i : ℕ) (part : Kept) (ps : List Kept) → slice_get xs i ≡ Some part → ps ≡ remove xs i
-    → (m : Machine) (made : List (List Choice)) (now : Now m made xs ts) → Work m made (part_of part ∷ views ps) now.0 (keys ts) []
-fronted xs ts i part ps at removed m made now =
+    → (P : List Part → List Part → List (List Choice) → List (List Choice) → Type 0) (steps : AreSteps P) (spent : List Part) → P (views xs) spent (keys ts) [] → P (part_of part ∷ views ps) spent (keys ts) []
+fronted xs ts i part ps at removed P steps spent s =
     let z = among xs i part [] at in
-    subst (λ t. Work m made (part_of part ∷ t) now.0 (keys ts) []) (sym z.without ∙ ap views (sym removed))
-    (turn made z.front z.back (part_of part) now.0 (keys ts) [] (subst (λ t. Work m made t now.0 (keys ts) []) z.whole now.1))
+    subst (λ t. P (part_of part ∷ t) spent (keys ts) []) (sym z.without ∙ ap views (sym removed))
+    (steps.turns z.front z.back (part_of part) spent (keys ts) [] (subst (λ t. P t spent (keys ts) []) z.whole s))
 
 module _ (xs : List Kept) (ts : List (Vec Choice Global)) (i : ℕ) (part : Kept) (nodes : List Node) (list : List Opening) (at : slice_get xs i ≡ Some part)
     (low : AreLow (length part.base.items) nodes list)
@@ -53,7 +58,7 @@ module _ (xs : List Kept) (ts : List (Vec Choice Global)) (i : ℕ) (part : Kept
     where
       worked : Work m (runs ++ made) (record { base = (part_of part).base; path = stored nodes } ∷ views ps) now.0 (keys ts) (map (key_at nodes) list)
       worked =
-          let front = fronted xs ts i part ps at removed m made now in
+          let front = fronted xs ts i part ps at removed (Work m made) (work_steps m made) now.0 now.1 in
           let z = left_begins m w made (part_of part).base (part_of part).path (views ps) now.0 (keys ts) [] front runs (stored nodes) s in
           (slice_law m made runs (part_of part).base (part_of part).path (stored nodes) (views ps) now.0 (keys ts) [] (map (key_at nodes) list) w front
           (gathers_of (part_of part).base z.0 nodes list (keys ts) z.1 low)).0 s
@@ -76,7 +81,7 @@ module _ (xs : List Kept) (ts : List (Vec Choice Global)) (i : ℕ) (part : Kept
     where
       worked : Work m (runs ++ made) (views ps) (record { base = (part_of part).base; path = stored nodes } ∷ now.0) (keys ts) (map (key_at nodes) list)
       worked =
-          let front = fronted xs ts i part ps at removed m made now in
+          let front = fronted xs ts i part ps at removed (Work m made) (work_steps m made) now.0 now.1 in
           let z = done_begins m w made (part_of part).base (part_of part).path (views ps) now.0 (keys ts) [] front runs (stored nodes) s in
           (slice_law m made runs (part_of part).base (part_of part).path (stored nodes) (views ps) now.0 (keys ts) [] (map (key_at nodes) list) w front
           (gathers_of (part_of part).base z.0 nodes list (keys ts) z.1 low)).1 s

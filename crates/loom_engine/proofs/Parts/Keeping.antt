@@ -4,16 +4,18 @@ use Rattle.std.specs.Prelude.{slice_get, slice_index_or}
 use Rattle.std.specs.declared.alloc.Global.{Global}
 use Rattle.loom_objects.specs.declared.choice.Choice.{Choice}
 use Rattle.loom_engine.specs.Walk.Machine.{Machine, is_thread}
-use Rattle.loom_engine.specs.Walk.Path.{Stored, node_at, choose}
+use Rattle.loom_engine.specs.Walk.Path.{Pending, Stored, node_at, IsAtRest, choose}
 use Rattle.loom_engine.specs.Walk.Lists.{Member}
 use Rattle.loom_engine.proofs.Walk.Lists.{node_on}
 use Rattle.loom_engine.specs.declared.rt.path.node.Node.{Node}
 use Rattle.loom_engine.specs.declared.rt.path.opening.Opening.{Opening}
 use Rattle.loom_engine.specs.declared.rt.parts.Part.{Part as Kept}
 use Rattle.loom_engine.specs.Path.Nodes.{seen, stored}
-use Rattle.loom_engine.specs.Parts.Cuts.{Part, IsIn, IsBelow, IsWithout}
+use Rattle.loom_engine.specs.Parts.Cuts.{Part, IsIn, IsBelow, AreTaken, AreOpen, IsWithout}
 use Rattle.loom_engine.specs.Parts.Floors.{branch_off, end_with}
-use Rattle.loom_engine.specs.Parts.Works.{Work, turn, hand_out, hand_out_value, drop_note}
+use Rattle.loom_engine.specs.Parts.Works.{Work, turn, raise, hand_out, hand_out_value, drop_note}
+use Rattle.loom_engine.specs.Covering.Spread.{Spread}
+use Rattle.loom_engine.specs.Covering.Spread as spread
 use Rattle.loom_engine.specs.Parts.Openings.{chosen_to, key_at, Opens, EachOpening}
 use Rattle.loom_engine.specs.Parts.Keeping.{part_of, views_onto, views, keys_onto, keys, Stands}
 
@@ -49,15 +51,50 @@ among (y ∷ xs) zero x later h =
     }
 among (y ∷ xs) (suc i) x later h = let z = among xs i x (part_of y ∷ later) h in record { front = z.front; back = z.back; whole = z.whole; without = z.without }
 
+-- What the steps of a list keep by which no run is made, whoever makes the runs.
+pub record AreSteps (P : List Part → List Part → List (List Choice) → List (List Choice) → Type 0) : Type 0 where
+  pub turns : (front back : List Part) (q : Part) (spent : List Part) (issued notes : List (List Choice)) → P (front ++ q ∷ back) spent issued notes → P (q ∷ front ++ back) spent issued notes
+  pub raises : (b : List Choice) (p : List Stored) (n : Stored) (parts spent : List Part) (issued notes taken open_ones : List (List Choice)) → P (record { base = b; path = p } ∷ parts) spent issued notes
+      → node_at p b ≡ Some n → AreTaken b n taken → AreOpen b n open_ones → P (record { base = b ++ n.present ∷ []; path = p } ∷ parts) spent (taken ++ issued) (open_ones ++ notes)
+  pub hands : (source : Part) (before : List Choice) (n : Stored) (o : Choice) (parts spent : List Part) (issued notes less : List (List Choice)) → P parts spent issued notes
+      → IsIn source parts ⊎ IsIn source spent → IsBelow before source.base → node_at source.path before ≡ Some n → n.made.exploring ≡ true → n.status o ≡ Pending → Member (before ++ o ∷ []) notes
+      → (Member (before ++ o ∷ []) issued → ⊥) → IsWithout (before ++ o ∷ []) notes less
+      → P (record { base = before ++ o ∷ []; path = branch_off (length before) o source.path } ∷ parts) spent ((before ++ o ∷ []) ∷ issued) less
+  pub hands_value : (source : Part) (before : List Choice) (n next : Stored) (parts spent : List Part) (issued notes less : List (List Choice)) → P parts spent issued notes
+      → IsIn source parts ⊎ IsIn source spent → IsBelow before source.base → node_at source.path before ≡ Some n → is_thread n.made.default ≡ false → next.made ≡ n.made → IsAtRest next
+      → Member (before ++ next.present ∷ []) notes → (Member (before ++ next.present ∷ []) issued → ⊥) → IsWithout (before ++ next.present ∷ []) notes less
+      → P (record { base = before ++ next.present ∷ []; path = end_with (length before) next source.path } ∷ parts) spent ((before ++ next.present ∷ []) ∷ issued) less
+  pub drops : (k : List Choice) (parts spent : List Part) (issued notes less : List (List Choice)) → P parts spent issued notes → Member k issued → IsWithout k notes less → P parts spent issued less
+
+-- one machine makes them
+pub work_steps : (m : Machine) (made : List (List Choice)) → AreSteps (Work m made)
+work_steps m made = record {
+  turns = λ front back q spent issued notes s. turn made front back q spent issued notes s;
+  raises = λ b p n parts spent issued notes taken open_ones s at t u. raise made b p n parts spent issued notes taken open_ones s at t u;
+  hands = λ source before n o parts spent issued notes less s is low at ex pe i unissued without. hand_out made source before n o parts spent issued notes less s is low at ex pe i unissued without;
+  hands_value = λ source before n next parts spent issued notes less s is low at value same rest i unissued without. hand_out_value made source before n next parts spent issued notes less s is low at value same rest i unissued without;
+  drops = λ k parts spent issued notes less s i without. drop_note made k parts spent issued notes less s i without;
+}
+
+-- or each is made in its own way
+pub spread_steps : (m : Machine) (left : List (List Stored)) → AreSteps (Spread m left)
+spread_steps m left = record {
+  turns = λ front back q spent issued notes s. spread.turn left front back q spent issued notes s;
+  raises = λ b p n parts spent issued notes taken open_ones s at t u. spread.raise left b p n parts spent issued notes taken open_ones s at t u;
+  hands = λ source before n o parts spent issued notes less s is low at ex pe i unissued without. spread.hand_out left source before n o parts spent issued notes less s is low at ex pe i unissued without;
+  hands_value = λ source before n next parts spent issued notes less s is low at value same rest i unissued without. spread.hand_out_value left source before n next parts spent issued notes less s is low at value same rest i unissued without;
+  drops = λ k parts spent issued notes less s i without. spread.drop_note left k parts spent issued notes less s i without;
+}
+
 -- the first parts go behind others
-pub behind : (m : Machine) (made : List (List Choice)) (out pre rest spent : List Part) (issued notes : List (List Choice)) → Work m made (pre ++ (out ++ rest)) spent issued notes
-    → Work m made (out ++ (pre ++ rest)) spent issued notes
-behind m made [] pre rest spent issued notes s = s
-behind m made (o ∷ out) pre rest spent issued notes s =
-    let moved = behind m made out (pre ++ o ∷ []) rest spent issued notes (subst (λ t. Work m made t spent issued notes) (sym (append_assoc pre (o ∷ []) (out ++ rest))) s) in
+pub behind : (P : List Part → List Part → List (List Choice) → List (List Choice) → Type 0) (steps : AreSteps P) (out pre rest spent : List Part) (issued notes : List (List Choice)) → P (pre ++ (out ++ rest)) spent issued notes
+    → P (out ++ (pre ++ rest)) spent issued notes
+behind P steps [] pre rest spent issued notes s = s
+behind P steps (o ∷ out) pre rest spent issued notes s =
+    let moved = behind P steps out (pre ++ o ∷ []) rest spent issued notes (subst (λ t. P t spent issued notes) (sym (append_assoc pre (o ∷ []) (out ++ rest))) s) in
     let split : out ++ ((pre ++ o ∷ []) ++ rest) ≡ (out ++ pre) ++ o ∷ rest = ap (λ t. out ++ t) (append_assoc pre (o ∷ []) rest) ∙ sym (append_assoc out pre (o ∷ rest)) in
-    subst (λ t. Work m made t spent issued notes) (ap (λ t. o ∷ t) (append_assoc out pre rest))
-    (turn made (out ++ pre) rest o spent issued notes (subst (λ t. Work m made t spent issued notes) split moved))
+    subst (λ t. P t spent issued notes) (ap (λ t. o ∷ t) (append_assoc out pre rest))
+    (steps.turns (out ++ pre) rest o spent issued notes (subst (λ t. P t spent issued notes) split moved))
 
 -- ---- the nodes
 
@@ -89,10 +126,10 @@ module _ (ps : List Kept) (ts : List (Vec Choice Global)) (nodes : List Node) (o
   abbrev new_part : Part → Part
   new_part source = record { base = key_at nodes opening; path = end_with (length (chosen_to opening.place nodes)) (seen opening.node) source.path }
 
-  handed : (m : Machine) (made : List (List Choice)) (out spent : List Part) (source : Part) (notes less : List (List Choice)) → Work m made (out ++ views ps) spent (keys ts) notes
+  handed : (P : List Part → List Part → List (List Choice) → List (List Choice) → Type 0) (steps : AreSteps P) (out spent : List Part) (source : Part) (notes less : List (List Choice)) → P (out ++ views ps) spent (keys ts) notes
       → Stands out spent nodes source → IsBelow (chosen_to opening.place nodes) source.base → Member (key_at nodes opening) notes → (Member (key_at nodes opening) (keys ts) → ⊥)
-      → IsWithout (key_at nodes opening) notes less → Work m made (new_part source ∷ out ++ views ps) spent (key_at nodes opening ∷ keys ts) less
-  handed m made out spent source notes less s stands low member unissued without = go (is_thread (seen n).made.default) refl
+      → IsWithout (key_at nodes opening) notes less → P (new_part source ∷ out ++ views ps) spent (key_at nodes opening ∷ keys ts) less
+  handed P steps out spent source notes less s stands low member unissued without = go (is_thread (seen n).made.default) refl
     where
       z : (node_at (stored nodes) (chosen_to opening.place nodes) ≡ Some (seen n)) × (length (chosen_to opening.place nodes) ≡ opening.place)
       z = stands_at nodes opening.place n at
@@ -111,26 +148,26 @@ module _ (ps : List Kept) (ts : List (Vec Choice Global)) (nodes : List Node) (o
           ∙ ap₂ (λ (k : ℕ) (p : List Stored). end_with k (seen opening.node) p) (sym z.1) (sym stands.path)
 
       go : (b : Bool) → is_thread (seen n).made.default ≡ b
-          → Work m made (record { base = key_at nodes opening; path = end_with (length (chosen_to opening.place nodes)) (seen opening.node) source.path } ∷ out ++ views ps) spent (key_at nodes opening ∷ keys ts) less
+          → P (record { base = key_at nodes opening; path = end_with (length (chosen_to opening.place nodes)) (seen opening.node) source.path } ∷ out ++ views ps) spent (key_at nodes opening ∷ keys ts) less
       go true t =
-          subst (λ (p : List Stored). Work m made (record { base = key_at nodes opening; path = p } ∷ out ++ views ps) spent (key_at nodes opening ∷ keys ts) less) (same_end t)
-          (hand_out made source (chosen_to opening.place nodes) (seen n) (seen opening.node).present (out ++ views ps) spent (keys ts) notes less s known low there opens.gone_on.opened.0 opens.gone_on.opened.1
+          subst (λ (p : List Stored). P (record { base = key_at nodes opening; path = p } ∷ out ++ views ps) spent (key_at nodes opening ∷ keys ts) less) (same_end t)
+          (steps.hands source (chosen_to opening.place nodes) (seen n) (seen opening.node).present (out ++ views ps) spent (keys ts) notes less s known low there opens.gone_on.opened.0 opens.gone_on.opened.1
           member unissued without)
       go false t =
-          hand_out_value made source (chosen_to opening.place nodes) (seen n) (seen opening.node) (out ++ views ps) spent (keys ts) notes less s known low there t opens.gone_on.made opens.gone_on.rests
+          steps.hands_value source (chosen_to opening.place nodes) (seen n) (seen opening.node) (out ++ views ps) spent (keys ts) notes less s known low there t opens.gone_on.made opens.gone_on.rests
           member unissued without
 
   pub hand_new : (x : Kept) (k : Vec Choice Global) → x.base.items ≡ key_at nodes opening → x.path.nodes ≡ take opening.place nodes ++ opening.node ∷ [] → k.items ≡ key_at nodes opening
       → (Member (key_at nodes opening) (keys ts) → ⊥)
-      → (m : Machine) (made : List (List Choice)) (out spent : List Part) (source : Part) (notes less : List (List Choice)) → Work m made (out ++ views ps) spent (keys ts) notes
+      → (P : List Part → List Part → List (List Choice) → List (List Choice) → Type 0) (steps : AreSteps P) (out spent : List Part) (source : Part) (notes less : List (List Choice)) → P (out ++ views ps) spent (keys ts) notes
       → Stands out spent nodes source → IsBelow (chosen_to opening.place nodes) source.base → Member (key_at nodes opening) notes → IsWithout (key_at nodes opening) notes less
-      → Work m made (out ++ views (ps ++ x ∷ [])) spent (keys (ts ++ k ∷ [])) less
-  hand_new x k base path key unissued m made out spent source notes less s stands low member without =
-      subst (λ t. Work m made (out ++ views (ps ++ x ∷ [])) spent t less) (ap (λ t. t ∷ keys ts) (sym key) ∙ sym (keys_snoc ts k []))
-      (subst (λ t. Work m made (out ++ t) spent (key_at nodes opening ∷ keys ts) less) (sym (views_snoc ps x []))
-      (behind m made out (part_of x ∷ []) (views ps) spent (key_at nodes opening ∷ keys ts) less
-      (subst (λ t. Work m made (t ∷ out ++ views ps) spent (key_at nodes opening ∷ keys ts) less) (sym same_part)
-      (handed m made out spent source notes less s stands low member unissued without))))
+      → P (out ++ views (ps ++ x ∷ [])) spent (keys (ts ++ k ∷ [])) less
+  hand_new x k base path key unissued P steps out spent source notes less s stands low member without =
+      subst (λ t. P (out ++ views (ps ++ x ∷ [])) spent t less) (ap (λ t. t ∷ keys ts) (sym key) ∙ sym (keys_snoc ts k []))
+      (subst (λ t. P (out ++ t) spent (key_at nodes opening ∷ keys ts) less) (sym (views_snoc ps x []))
+      (behind P steps out (part_of x ∷ []) (views ps) spent (key_at nodes opening ∷ keys ts) less
+      (subst (λ t. P (t ∷ out ++ views ps) spent (key_at nodes opening ∷ keys ts) less) (sym same_part)
+      (handed P steps out spent source notes less s stands low member unissued without))))
     where
       long : length (chosen_to opening.place nodes) ≡ opening.place
       long = (stands_at nodes opening.place n at).1
@@ -142,11 +179,11 @@ module _ (ps : List Kept) (ts : List (Vec Choice Global)) (nodes : List Node) (o
 
 -- a note of what was handed out is done with
 pub hand_old : (ps : List Kept) (ts : List (Vec Choice Global)) (nodes : List Node) (opening : Opening) (k : List Choice) → k ≡ key_at nodes opening → Member k (keys ts)
-    → (m : Machine) (made : List (List Choice)) (out spent : List Part) (source : Part) (notes less : List (List Choice)) → Work m made (out ++ views ps) spent (keys ts) notes
+    → (P : List Part → List Part → List (List Choice) → List (List Choice) → Type 0) (steps : AreSteps P) (out spent : List Part) (source : Part) (notes less : List (List Choice)) → P (out ++ views ps) spent (keys ts) notes
     → Stands out spent nodes source → IsBelow (chosen_to opening.place nodes) source.base → Member (key_at nodes opening) notes → IsWithout (key_at nodes opening) notes less
-    → Work m made (out ++ views ps) spent (keys ts) less
-hand_old ps ts nodes opening k e i m made out spent source notes less s stands low member without =
-    drop_note made (key_at nodes opening) (out ++ views ps) spent (keys ts) notes less s (subst (λ t. Member t (keys ts)) e i) without
+    → P (out ++ views ps) spent (keys ts) less
+hand_old ps ts nodes opening k e i P steps out spent source notes less s stands low member without =
+    steps.drops (key_at nodes opening) (out ++ views ps) spent (keys ts) notes less s (subst (λ t. Member t (keys ts)) e i) without
 
 -- ---- what was handed out
 
@@ -184,6 +221,10 @@ first_views xs x e f g = ap views e ∙ ap₂ (λ (b : List Choice) (p : List No
 pub no_views : (xs : List Kept) → length xs ≡ 0 → views xs ≡ []
 no_views [] h = refl
 no_views (x ∷ xs) h = absurd (omega arith)
+
+pub no_parts : (xs : List Kept) → length xs ≡ 0 → xs ≡ []
+no_parts [] h = refl
+no_parts (x ∷ xs) h = absurd (omega arith)
 
 -- ---- lists of openings
 

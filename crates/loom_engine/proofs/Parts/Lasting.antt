@@ -11,7 +11,7 @@ in_middle : (front : List Part) (q : Part) (back : List Part) → IsIn q (front 
 in_middle [] q back = inl refl
 in_middle (x ∷ front) q back = inr (in_middle front q back)
 
-in_views : (xs : List Kept) (i : ℕ) (x : Kept) → slice_get xs i ≡ Some x → IsIn (part_of x) (views xs)
+pub in_views : (xs : List Kept) (i : ℕ) (x : Kept) → slice_get xs i ≡ Some x → IsIn (part_of x) (views xs)
 in_views xs i x h = let z = among xs i x [] h in subst (λ l. IsIn (part_of x) l) (sym z.whole) (in_middle z.front (part_of x) z.back)
 
 pub parts_law : PartsLaw

@@ -1,9 +1,10 @@
 -- What runs cover that were cut off where they came to a state that was noted.
-use Rattle.std.specs.Prelude.{◌≡◌, ◌≢◌, Bool, true, List, [], ◌∷◌, Some, None, Ok, Result, ◌⊎◌}
+use Rattle.std.specs.Prelude.{◌≡◌, ◌≢◌, Bool, true, List, [], ◌∷◌, ◌++◌, Some, None, Ok, Result, ◌⊎◌}
 use Rattle.loom_objects.specs.declared.choice.Choice.{Choice}
 use Rattle.loom_objects.specs.Tree.Question.{Made}
-use Rattle.loom_engine.specs.Walk.Path.{Skip, Stored, choices, node_at}
-use Rattle.loom_engine.specs.Walk.Driven.{Driven, IsOneOf}
+use Rattle.loom_engine.specs.Walk.Lists.{Begins}
+use Rattle.loom_engine.specs.Walk.Path.{Skip, Stored, choices, node_at, IsAtRest}
+use Rattle.loom_engine.specs.Walk.Driven.{IsOneOf, ToBeTried}
 use Rattle.loom_views.specs.declared.rt.failure.FailureKind.{FailureKind}
 use Rattle.loom_engine.specs.Covering.World.{World, IsCalled, Ends, IsLimit}
 use Rattle.loom_engine.specs.Covering.Sound.{IsSound}
@@ -17,6 +18,13 @@ IsGiven c value (run ∷ runs) = ((c ≡ run.0) × (value ≡ run.1)) ⊎ IsGive
 abbrev pub SkipsNone : List Stored → Type 0
 SkipsNone p = (before : List Choice) (n : Stored) (o : Choice) → node_at p before ≡ Some n → n.made.exploring ≡ true → n.status o ≢ Skip
 
+-- There is a path that a run left, each rests, and each option of one that is to be tried, or was, begins a run.
+pub record AreTried (left : List (List Stored)) : Type 0 where
+  pub some : (q : List Stored) × IsOneOf q left
+  pub rests : (q : List Stored) → IsOneOf q left → (before : List Choice) (n : Stored) → node_at q before ≡ Some n → IsAtRest n
+  pub tried : (q : List Stored) → IsOneOf q left → (before : List Choice) (n : Stored) (o : Choice) → node_at q before ≡ Some n → n.made.exploring ≡ true → ToBeTried (n.status o)
+      → (x : List Stored) × IsOneOf x left × Begins (before ++ o ∷ []) (choices x)
+
 module _ {A K : Type 0} (w : World A) (key : List Choice → K) (left : List (List Stored)) (runs : List (List Choice × A)) where
   -- how the run that left the path q came to its end
   pub data IsEnd (q : List Stored) : Type 0 where
@@ -27,7 +35,7 @@ module _ {A K : Type 0} (w : World A) (key : List Choice → K) (left : List (Li
 
   -- The runs of a search that remembers states, by the paths that they left, once nothing is left to be tried.
   pub record Remembers : Type 0 where
-    pub driven : Driven [] left
+    pub driven : AreTried left
     pub tries : (q : List Stored) → IsOneOf q left → SkipsNone q
     pub meets : (q : List Stored) → IsOneOf q left → (before : List Choice) (n : Stored) → node_at q before ≡ Some n → w.node before ≡ Some n.made
     pub ends : (q : List Stored) → IsOneOf q left → IsEnd q

@@ -61,6 +61,10 @@ module _ {D S : Type 0} where
   FindsOrNotes state choices old None new = NotesAs state choices old new
   FindsOrNotes state choices old (Some number) new = (slice_get old.states number ≡ Some state) × (new ≡ old)
 
+  -- the states of one table, and behind them those of another, of whose body they are
+  abbrev pub beside : Noted D S → Noted D S → Noted D S
+  beside one other = record { states = one.states ++ other.states; led_by = one.led_by ++ other.led_by; never = other.never }
+
   -- what was noted keeps its number
   abbrev pub GrowsFrom : Noted D S → Noted D S → Type 0
   GrowsFrom old new = (k : ℕ) (c : List Choice) → slice_get old.led_by k ≡ Some c → slice_get new.led_by k ≡ Some c

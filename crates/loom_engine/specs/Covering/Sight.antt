@@ -1,6 +1,6 @@
 -- What has to be kept of a body's state: of its points what is seen of them; whose turn it is where the search doesn't explore; and how often
 -- threads have yielded, but where the search explores and the body is known never to switch that.
-use Rattle.std.specs.Prelude.{ℕ, ◌≡◌, Bool, true, List, [], ◌⊎◌}
+use Rattle.std.specs.Prelude.{ℕ, ◌≡◌, Bool, true, false, List, [], ◌⊎◌}
 use Rattle.loom_views.specs.declared.rt.failure.FailureKind.{FailureKind}
 use Rattle.loom_views.specs.declared.rt.failure.FailureKind.TheVariants.{TooManyVersions}
 use Rattle.loom_views.specs.Sight.{Sight as SightOfPoints, seen}

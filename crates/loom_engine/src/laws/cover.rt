@@ -7,6 +7,7 @@ ghost use Rattle.loom_engine.specs.Covering.Parts.{BegunLaw, HandingLaw, NodesLa
 ghost use Rattle.loom_engine.specs.Covering.Points.{PointsLaw, ThemselvesLaw, YieldsLaw};
 ghost use Rattle.loom_engine.specs.Covering.Seen.{TurnLaw, WholeLaw};
 ghost use Rattle.loom_engine.specs.Covering.Sight.{BodyEndsLaw, SeenBodyLaw, SightMovesLaw};
+ghost use Rattle.loom_engine.specs.Covering.Spread.{SpreadBodyLaw, SpreadCoversLaw, SpreadLaw};
 ghost use Rattle.loom_engine.specs.Covering.States.{CoveredBodyLaw, StatesLaw};
 ghost use Rattle.loom_engine.specs.Covering.Table.{TableLaw};
 ghost use Rattle.loom_engine.specs.Covering.Ways.{CanEndLaw, WaysLaw};
@@ -125,4 +126,19 @@ pub fn paths_keep_nodes<A>()
 /// Where the same is kept of two runs that stand at branch points, they are in the same state (own).
 pub fn kept_tells_the_state<D, S>()
     ensures { KeptLaw D S }
+{}
+
+/// Of a covering search that is spread over parts each option was tried once no part is left, whatever cut off its runs (own).
+pub fn spread_search_tries_all()
+    ensures { SpreadLaw }
+{}
+
+/// So it has covered each run of the tree (own).
+pub fn spread_search_covers<A, K>()
+    ensures { SpreadCoversLaw A K }
+{}
+
+/// And each run of a body, where its runs are cut off at states of which the same is seen (own).
+pub fn body_is_covered_by_parts<D, S>()
+    ensures { SpreadBodyLaw D S }
 {}

@@ -11,6 +11,7 @@ ghost use Rattle.loom_engine.specs.Walk.Machine.{Machine};
 ghost use Rattle.loom_engine.specs.Walk.Sound.{IsMachine};
 ghost use Rattle.loom_engine.specs.Walk.Lists.{Member};
 ghost use Rattle.loom_engine.specs.Path.Nodes.{stored};
+ghost use Rattle.loom_engine.specs.Covering.Spread.{IsSpread, SpreadsBack, SpreadsOn, SpreadsOut, SpreadsOutEach};
 ghost use Rattle.loom_engine.specs.Parts.Openings.{EachOpening, OpensAt};
 ghost use Rattle.loom_engine.specs.Parts.Keeping.{keys, AddsParts, Counts, CountsNone, Cuts, GivesBack, HandsOut, HandsOutEach, HasComeTo, HasMadeAll, IsAt, IsBaseOf, IsCopy, Issues, KeepsOthers, Takes};
 
@@ -66,7 +67,8 @@ pub struct Parts {
 impl Parts {
     /// A search from its beginning: one part, of which nothing is fixed (own).
     pub fn new(alloc: Global, search: Search) -> Result<Parts, AllocError>
-        ensures { IfOk result (λ parts. (m : Machine) → IsAt m [] parts) }
+        ensures begins { IfOk result (λ parts. (m : Machine) → IsAt m [] parts) }
+        ensures spreads { IfOk result (λ parts. (m : Machine) → IsSpread m [] parts) }
     {
         let mut list = Vec::new(alloc);
         list.push(Part {
@@ -112,7 +114,8 @@ impl Parts {
 
     /// Whether no part is left. Then the runs made are all that are reachable, each once (own).
     pub fn is_over(&self) -> bool
-        ensures { result ≡ true → (m : Machine) (made : List (List Chosen)) → IsMachine m → IsAt m made self.now → HasMadeAll m made }
+        ensures all { result ≡ true → (m : Machine) (made : List (List Chosen)) → IsMachine m → IsAt m made self.now → HasMadeAll m made }
+        ensures none { result ≡ true → self.now.list.items ≡ [] }
     {
         self.list.is_empty()
     }
@@ -132,6 +135,7 @@ impl Parts {
     /// handed out, and they count. False, and nothing changes, where no part has its base (own).
     pub fn give_back(&mut self, alloc: Global, mut part: Part) -> Result<bool, AllocError>
         ensures back { IfOk result (GivesBack self.old part self.new) }
+        ensures spreads { IfOk result (SpreadsBack self.old part self.new) }
         ensures others { IfOk result (λ _. KeepsOthers self.old.list.items part.base.items self.new.list.items) }
         ensures counts { IfOk result (Counts self.old part self.new) }
     {
@@ -153,6 +157,7 @@ impl Parts {
     /// and nothing changes, where there is no such part, or no such node (own).
     pub fn cut(&mut self, alloc: Global, number: usize) -> Result<bool, AllocError>
         ensures cuts { IfOk result (λ _. Cuts self.old self.new) }
+        ensures spreads { IfOk result (λ _. SpreadsOn self.old self.new) }
         ensures counts { IfOk result (λ _. CountsNone self.old self.new) }
     {
         if number >= self.list.len() {
@@ -202,6 +207,7 @@ impl Parts {
     fn hand_out(&mut self, alloc: Global, path: &Path, opening: &Opening) -> Result<(), AllocError>
         requires { OpensAt path.now.nodes opening.now }
         ensures hands { IfOk result (λ _. HandsOut self.old self.new path.now.nodes opening.now) }
+        ensures spreads { IfOk result (λ _. SpreadsOut self.old self.new path.now.nodes opening.now) }
         ensures adds { IfOk result (λ _. AddsParts self.old self.new) }
     {
         let key = path.key(alloc, opening)?;
@@ -230,6 +236,7 @@ impl Parts {
     ) -> Result<(), AllocError>
         requires { EachOpening (OpensAt path.now.nodes) openings.now }
         ensures hands { IfOk result (λ _. HandsOutEach self.old self.new path.now.nodes openings.now) }
+        ensures spreads { IfOk result (λ _. SpreadsOutEach self.old self.new path.now.nodes openings.now) }
         ensures adds { IfOk result (λ _. AddsParts self.old self.new) }
     {
         for opening in openings {

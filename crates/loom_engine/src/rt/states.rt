@@ -5,12 +5,15 @@ pub(crate) mod tasks;
 pub(crate) mod threads;
 pub mod ways;
 
-ghost use Rattle.std.specs.Prelude.{◌≡◌, [], IfOk, IfSome, IsTrue, length, slice_get, Some};
-ghost use Rattle.loom_engine.specs.Covering.Kept.{FindsOrNotes, HasScene, NotesAs, state_in};
+ghost use Rattle.std.specs.Prelude.{◌≡◌, [], IfOk, IfSome, IsTrue, ◌++◌, Bool, List, false, length, slice_get, Some};
+ghost use Rattle.loom_objects.specs.declared.choice.Choice.{Choice as Chosen};
+ghost use Rattle.loom_engine.specs.Covering.Kept.{FindsOrNotes, HasScene, Key, NotesAs, beside, state_in};
 ghost use Rattle.loom_engine.specs.Covering.Points.{yields_seen};
+ghost use Rattle.loom_engine.specs.Covering.Spread.{IsTableOf};
 ghost use Rattle.loom_views.specs.declared.rt.views.Views.{Views};
 ghost use Rattle.loom_views.specs.InOrder.{IsInOrder};
 ghost use Rattle.loom_engine.specs.Path.Route.{chosen};
+ghost use Rattle.loom_engine.specs.Walk.Path.{Stored};
 
 use crate::rt::execution::Execution;
 use crate::rt::path::Path;
@@ -199,6 +202,32 @@ impl<D: Data + Same, B: Body + Same> States<D, B> {
         })
     }
 
+    /// None, and no room for any (own).
+    pub fn none(alloc: Global) -> States<D, B>
+        ensures { result ≡ record { states = []; led_by = []; never = false } }
+    {
+        States {
+            states: Sequence::new(alloc),
+            led_by: Sequence::new(alloc),
+            before: Vec::new(alloc),
+            last: Vec::new(alloc),
+            digests: Vec::new(alloc),
+            spare: None,
+            most: 0,
+            never_switches: false,
+            alloc,
+        }
+    }
+
+    /// A table of no states beside this one, of the same body, for as many as this one may have more (own). An error where memory is
+    /// refused.
+    pub fn beside(&self, alloc: Global) -> Result<States<D, B>, AllocError>
+        ensures { IfOk result (λ states. states ≡ record { states = []; led_by = []; never = self.now.never }) }
+    {
+        let most = self.most.saturating_sub(self.states.len());
+        States::new(alloc, most, self.never_switches)
+    }
+
     /// How many were noted.
     pub fn len(&self) -> usize
         ensures { result ≡ length self.now.states }
@@ -213,22 +242,66 @@ impl<D: Data + Same, B: Body + Same> States<D, B> {
         self.led_by.as_slice()
     }
 
-    /// The number of the state that the run is in, which came to it along the path, if it was noted. Otherwise it is noted, if there may
-    /// be one more. It is known by views by the ranks of their counts, in place of its own. An error where memory is refused.
+    /// The number of the state that the run is in, which came to it along the path, if it was noted: in another table, or behind its states
+    /// in this one. Otherwise it is noted here, if there may be one more. It is known by views by the ranks of their counts, in place of its
+    /// own. An error where memory is refused.
     pub fn look_up(
         &mut self,
+        known: &States<D, B>,
         execution: &Execution<D>,
         bodies: &[B],
         path: &Path,
     ) -> Result<Option<usize>, AllocError>
         ensures { IfOk result (λ found. (views : Views) × IsInOrder execution.now.run.state.scene.views views
-            × FindsOrNotes (state_in self.old.never execution.now.run bodies.now views) (chosen path.now) self.old found self.new) }
+            × FindsOrNotes (state_in self.old.never execution.now.run bodies.now views) (chosen path.now) (beside known.now self.old) found (beside known.now self.new)) }
     {
         let spare = self.take_spare();
         let views = execution.scene().views().ranked(self.alloc, spare)?;
-        let found = self.find_or_note(execution, bodies, &views, path)?;
+        let found = self.find_or_note(known, execution, bodies, &views, path)?;
         self.keep_spare(views);
         Ok(found)
+    }
+
+    /// The number of the state that the run is in, with these views in place of its own, if it was noted: in another table, or behind its
+    /// states in this one. Otherwise it is noted here, if there may be one more. An error where memory is refused.
+    fn find_or_note(
+        &mut self,
+        known: &States<D, B>,
+        execution: &Execution<D>,
+        bodies: &[B],
+        views: &Views,
+        path: &Path,
+    ) -> Result<Option<usize>, AllocError>
+        ensures { IfOk result (λ found. FindsOrNotes (state_in self.old.never execution.now.run bodies.now views.now) (chosen path.now) (beside known.now self.old) found (beside known.now self.new)) }
+    {
+        let digest = views.digest();
+        match self.find_beside(known, execution, bodies, views, digest) {
+            Some(number) => Ok(Some(number)),
+            None => {
+                self.note(execution, bodies, views, digest, path)?;
+                Ok(None)
+            }
+        }
+    }
+
+    /// The number of the state that the run is in, with these views in place of its own, whose digest is this, if it was noted: in another
+    /// table, or behind its states in this one.
+    fn find_beside(
+        &self,
+        known: &States<D, B>,
+        execution: &Execution<D>,
+        bodies: &[B],
+        views: &Views,
+        digest: u64,
+    ) -> Option<usize>
+        ensures { IfSome result (λ number. slice_get (known.now.states ++ self.now.states) number ≡ Some (state_in self.now.never execution.now.run bodies.now views.now)) }
+    {
+        let never = self.never_switches;
+        if let Some(number) = known.find(execution, bodies, views, digest, never) {
+            return Some(number);
+        }
+        let number = self.find(execution, bodies, views, digest, never)?;
+        known.len().checked_add(number)
     }
 
     /// The spare views, or new ones.
@@ -248,36 +321,17 @@ impl<D: Data + Same, B: Body + Same> States<D, B> {
         self.spare = Some(views);
     }
 
-    /// The number of the state that the run is in, with these views in place of its own, if it was noted. Otherwise it is noted, if there
-    /// may be one more. An error where memory is refused.
-    fn find_or_note(
-        &mut self,
-        execution: &Execution<D>,
-        bodies: &[B],
-        views: &Views,
-        path: &Path,
-    ) -> Result<Option<usize>, AllocError>
-        ensures { IfOk result (λ found. FindsOrNotes (state_in self.old.never execution.now.run bodies.now views.now) (chosen path.now) self.old found self.new) }
-    {
-        let digest = views.digest();
-        match self.find(execution, bodies, views, digest) {
-            Some(number) => Ok(Some(number)),
-            None => {
-                self.note(execution, bodies, views, digest, path)?;
-                Ok(None)
-            }
-        }
-    }
-
-    /// The number of the state that the run is in, if it was noted, with these views in place of its own, whose digest is this.
+    /// The number of the state that the run is in, if it was noted, with these views in place of its own, whose digest is this, and of a body
+    /// that is known never to switch whether the search explores, or of any.
     fn find(
         &self,
         execution: &Execution<D>,
         bodies: &[B],
         views: &Views,
         digest: u64,
+        never_switches: bool,
     ) -> Option<usize>
-        ensures { IfSome result (λ number. slice_get self.now.states number ≡ Some (state_in self.now.never execution.now.run bodies.now views.now)) }
+        ensures { IfSome result (λ number. slice_get self.now.states number ≡ Some (state_in never_switches execution.now.run bodies.now views.now)) }
     {
         let mut number = self.last_of(list_of(digest));
         for _ in 0..self.states.len() {
@@ -288,7 +342,7 @@ impl<D: Data + Same, B: Body + Same> States<D, B> {
                 && self
                     .states
                     .at(number - 1)
-                    .is_at(execution, bodies, views, self.never_switches)
+                    .is_at(execution, bodies, views, never_switches)
             {
                 return Some(number - 1);
             }
@@ -312,12 +366,44 @@ impl<D: Data + Same, B: Body + Same> States<D, B> {
         if self.states.len() >= self.most {
             return Ok(());
         }
-        let list = list_of(digest);
         let views = views.try_clone(self.alloc)?;
         let state = State::of(self.alloc, execution, bodies, views, self.never_switches)?;
         let choices = path.choices(self.alloc)?;
-        self.led_by.push(Sequence::from_vec(choices))?;
+        self.add(state, digest, Sequence::from_vec(choices))
+    }
+
+    /// Adds the states of another table, as far as there may be more (own). One that both tables have then stands here twice. An error
+    /// where memory is refused.
+    pub fn join(&mut self, other: States<D, B>) -> Result<(), AllocError>
+        ensures { IfOk result (λ _. (never : Bool) (key : List Chosen → Key D B) (left : List (List Stored)) → IsTableOf never key left self.old → IsTableOf never key left other → IsTableOf never key left self.new) }
+    {
+        let mut states = other.states.into_vec();
+        let mut led_by = other.led_by.into_vec();
+        'join: while let Some(state) = states.pop() {
+            let Some(choices) = led_by.pop() else {
+                return Ok(());
+            };
+            let digest = state.views.digest();
+            self.add(state, digest, choices)?;
+        }
+        Ok(())
+    }
+
+    /// Adds a state to which a run came by these choices, and the digest of its views, if there may be one more.
+    fn add(
+        &mut self,
+        state: State<D, B>,
+        digest: u64,
+        choices: Sequence<Choice>,
+    ) -> Result<(), AllocError>
+        ensures { IfOk result (λ _. NotesAs state choices self.old self.new) }
+    {
+        if self.states.len() >= self.most {
+            return Ok(());
+        }
+        let list = list_of(digest);
         let before = self.last_of(list);
+        self.led_by.push(choices)?;
         self.before.push(before)?;
         self.digests.push(digest)?;
         self.states.push(state)?;

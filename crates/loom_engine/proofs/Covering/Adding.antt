@@ -1,0 +1,246 @@
+-- States that are added to a table, which are those of another.
+use Rattle.std.proofs.Common.{◌≡◌, ◌<◌, ◌+◌, ◌⊎◌, Bool, ℕ, zero, suc, arith, append_assoc, List, [], ◌∷◌, ◌++◌, length, map, Option, Some, None, Result, refl, ap, sym, ◌∙◌, subst, inl, inr, length-append}
+use Rattle.std.specs.List.{Contains}
+use Rattle.std.specs.Prelude.{IfOk, IfSome, SomeIff, slice_get, ⊤}
+use Rattle.loom_objects.specs.declared.choice.Choice.{Choice}
+use Rattle.loom_engine.specs.Walk.Driven.{IsOneOf}
+use Rattle.loom_engine.specs.Walk.Path.{Stored}
+use Rattle.loom_engine.specs.declared.rt.states.State.{State as Kept}
+use Rattle.loom_engine.specs.Covering.Kept.{AreKeptAfter, FindsOrNotes, IsKeptOf, Key, Noted, NotesAs, beside}
+use Rattle.loom_engine.specs.Covering.Spread.{IsTableOf}
+use Rattle.loom_engine.specs.Covering.UnderWay.{HasNode}
+use Rattle.loom_engine.proofs.Covering.Kept.{has_at}
+
+-- ---- lists
+
+module _ {X : Type 0} where
+  got_front : (xs ys : List X) (k : ℕ) (x : X) → slice_get xs k ≡ Some x → slice_get (xs ++ ys) k ≡ Some x
+  got_front [] ys k x e = absurd (cc e)
+  got_front (y ∷ xs) ys zero x e = e
+  got_front (y ∷ xs) ys (suc k) x e = got_front xs ys k x e
+
+  -- what a list with one more has at a place
+  got_more : (xs : List X) (y : X) (k : ℕ) (x : X) → slice_get (xs ++ y ∷ []) k ≡ Some x → (slice_get xs k ≡ Some x) ⊎ ((k ≡ length xs) × (y ≡ x))
+  got_more [] y zero x e = inr (refl, cc e)
+  got_more [] y (suc k) x e = absurd (cc e)
+  got_more (z ∷ xs) y zero x e = inl e
+  got_more (z ∷ xs) y (suc k) x e = by (got_more xs y k x e)
+    where
+      by : (slice_get xs k ≡ Some x) ⊎ ((k ≡ length xs) × (y ≡ x)) → (slice_get xs k ≡ Some x) ⊎ ((suc k ≡ suc (length xs)) × (y ≡ x))
+      by (inl h) = inl h
+      by (inr (i, h)) = inr (ap suc i, h)
+
+  got_on : (xs ys : List X) (k n : ℕ) (x : X) → n ≡ length xs + k → slice_get ys k ≡ Some x → slice_get (xs ++ ys) n ≡ Some x
+  got_on [] ys k n x i e = let s : k ≡ n = omega (arith, i) in subst (λ (m : ℕ). slice_get ys m ≡ Some x) s e
+  got_on (y ∷ xs) ys k zero x i e = absurd (omega (arith, i))
+  got_on (y ∷ xs) ys k (suc n) x i e = got_on xs ys k n x (omega (arith, i)) e
+
+  got_behind : (xs ys : List X) (k : ℕ) (x : X) → slice_get ys k ≡ Some x → slice_get (xs ++ ys) (length xs + k) ≡ Some x
+  got_behind xs ys k x e = got_on xs ys k (length xs + k) x refl e
+
+  on_got : (xs ys : List X) (k n : ℕ) (x : X) → n ≡ length xs + k → slice_get (xs ++ ys) n ≡ Some x → slice_get ys k ≡ Some x
+  on_got [] ys k n x i e = let s : n ≡ k = omega (arith, i) in subst (λ (m : ℕ). slice_get ys m ≡ Some x) s e
+  on_got (y ∷ xs) ys k zero x i e = absurd (omega (arith, i))
+  on_got (y ∷ xs) ys k (suc n) x i e = on_got xs ys k n x (omega (arith, i)) e
+
+  behind_got : (xs ys : List X) (k : ℕ) (x : X) → slice_get (xs ++ ys) (length xs + k) ≡ Some x → slice_get ys k ≡ Some x
+  behind_got xs ys k x e = on_got xs ys k (length xs + k) x refl e
+
+  got_either : (xs ys : List X) (k : ℕ) (x : X) → slice_get (xs ++ ys) k ≡ Some x → (slice_get xs k ≡ Some x) ⊎ ((j : ℕ) × (k ≡ length xs + j) × (slice_get ys j ≡ Some x))
+  got_either [] ys k x e = inr (k, omega arith, e)
+  got_either (y ∷ xs) ys zero x e = inl e
+  got_either (y ∷ xs) ys (suc k) x e = by (got_either xs ys k x e)
+    where
+      by : (slice_get xs k ≡ Some x) ⊎ ((j : ℕ) × (k ≡ length xs + j) × (slice_get ys j ≡ Some x)) → (slice_get (y ∷ xs) (suc k) ≡ Some x) ⊎ ((j : ℕ) × (suc k ≡ length (y ∷ xs) + j) × (slice_get ys j ≡ Some x))
+      by (inl h) = inl h
+      by (inr (j, i, h)) = inr (j, omega (arith, i), h)
+
+  last_there : (xs : List X) (y : X) → slice_get (xs ++ y ∷ []) (length xs) ≡ Some y
+  last_there [] y = refl
+  last_there (z ∷ xs) y = last_there xs y
+
+  got_within : (xs : List X) (k : ℕ) (x : X) → slice_get xs k ≡ Some x → k < length xs
+  got_within [] k x e = absurd (cc e)
+  got_within (y ∷ xs) zero x e = omega arith
+  got_within (y ∷ xs) (suc k) x e = let l = got_within xs k x e in omega (arith, l)
+
+  has_more : (xs : List X) (y x : X) → Contains (xs ++ y ∷ []) x → Contains xs x ⊎ (y ≡ x)
+  has_more [] y x (zero, l, e) = inr e
+  has_more [] y x (suc k, l, e) = absurd (omega (arith, l))
+  has_more (z ∷ xs) y x (zero, l, e) = inl (0, omega arith, e)
+  has_more (z ∷ xs) y x (suc k, l, e) = by (has_more xs y x (k, omega (arith, l), e))
+    where
+      by : Contains xs x ⊎ (y ≡ x) → Contains (z ∷ xs) x ⊎ (y ≡ x)
+      by (inl (j, m, f)) = inl (suc j, omega (arith, m), f)
+      by (inr f) = inr f
+
+  has_front : (xs ys : List X) (x : X) → Contains xs x → Contains (xs ++ ys) x
+  has_front [] ys x (k, l, e) = absurd (omega (arith, l))
+  has_front (y ∷ xs) ys x (zero, l, e) = (0, omega arith, e)
+  has_front (y ∷ xs) ys x (suc k, l, e) = let z = has_front xs ys x (k, omega (arith, l), e) in (suc z.0, omega (arith, z.1), z.2)
+
+  pub has_behind : (xs ys : List X) (x : X) → Contains ys x → Contains (xs ++ ys) x
+  has_behind [] ys x h = h
+  has_behind (y ∷ xs) ys x h = let z = has_behind xs ys x h in (suc z.0, omega (arith, z.1), z.2)
+
+  pub has_either : (xs ys : List X) (x : X) → Contains (xs ++ ys) x → Contains xs x ⊎ Contains ys x
+  has_either [] ys x h = inr h
+  has_either (y ∷ xs) ys x (zero, l, e) = inl (0, omega arith, e)
+  has_either (y ∷ xs) ys x (suc k, l, e) = further (has_either xs ys x (k, omega (arith, l), e))
+    where
+      further : Contains xs x ⊎ Contains ys x → Contains (y ∷ xs) x ⊎ Contains ys x
+      further (inl (j, m, f)) = inl (suc j, omega (arith, m), f)
+      further (inr h) = inr h
+
+  has_last : (xs : List X) (y : X) → Contains (xs ++ y ∷ []) y
+  has_last xs y = has_at (xs ++ y ∷ []) (length xs) y (last_there xs y)
+
+-- ---- tables
+
+pub notes_so : {D S E : Type 0} (old new : Noted D S) (state other : Kept D S) (c d : List Choice) → state ≡ other → c ≡ d → (result : Result ⊤ E) → IfOk result (λ _. NotesAs state c old new) → IfOk result (λ _. NotesAs other d old new)
+notes_so old new state other c d e f result h =
+    subst (λ (s : Kept _ _). IfOk result (λ _. NotesAs s d old new)) e (subst (λ (l : List Choice). IfOk result (λ _. NotesAs state l old new)) f h)
+
+module _ {D S : Type 0} (never : Bool) (key : List Choice → Key D S) (left : List (List Stored)) where
+  -- one state, with the choices that led a run to it
+  pub record IsOne (one : Kept D S) (c : List Choice) : Type 0 where
+    pub kept : IsKeptOf never one (key c)
+    pub node : (q : List Stored) × IsOneOf q left × HasNode q c
+
+  -- it is one more of those in the table
+  pub one_added : (old new : Noted D S) (one : Kept D S) (c : List Choice) → IsTableOf never key left old → IsOne one c → NotesAs one c old new → IsTableOf never key left new
+  one_added old new one c t is (inr same) = subst (IsTableOf never key left) (sym same) t
+  one_added old new one c t is (inl (states, led_by, same)) = record {
+    same = here;
+    kept = record {
+      counted = ap length led_by ∙ length-append old.led_by (c ∷ []) ∙ ap (λ (n : ℕ). n + 1) t.kept.counted ∙ sym (length-append old.states (one ∷ [])) ∙ sym (ap length states);
+      each = λ k x at. by k x (got_more old.states one k x (ap (λ (l : List (Kept D S)). slice_get l k) (sym states) ∙ at));
+    };
+    nodes = λ d has. there d (has_more old.led_by c d (subst (λ (l : List (List Choice)). Contains l d) led_by has));
+  }
+    where
+      here : new.never ≡ never
+      here = same ∙ t.same
+
+      by : (k : ℕ) (x : Kept D S) → (slice_get old.states k ≡ Some x) ⊎ ((k ≡ length old.states) × (one ≡ x)) → (d : List Choice) × (slice_get new.led_by k ≡ Some d) × IsKeptOf new.never x (key d)
+      by k x (inl at) =
+          let z = t.kept.each k x at in
+          (z.0, ap (λ (l : List (List Choice)). slice_get l k) led_by ∙ got_front old.led_by (c ∷ []) k z.0 z.1, subst (λ (n : Bool). IsKeptOf n x (key z.0)) (sym same) z.2)
+      by k x (inr (last, is_one)) = (
+        c,
+        ap (λ (l : List (List Choice)). slice_get l k) led_by ∙ ap (λ (n : ℕ). slice_get (old.led_by ++ c ∷ []) n) (last ∙ sym t.kept.counted) ∙ last_there old.led_by c,
+        subst (λ (y : Kept D S). IsKeptOf new.never y (key c)) is_one (subst (λ (n : Bool). IsKeptOf n one (key c)) (sym here) is.kept),
+      )
+
+      there : (d : List Choice) → Contains old.led_by d ⊎ (c ≡ d) → (q : List Stored) × IsOneOf q left × HasNode q d
+      there d (inl h) = t.nodes d h
+      there d (inr e) = subst (λ (l : List Choice). (q : List Stored) × IsOneOf q left × HasNode q l) e is.node
+
+  -- a table by its lists
+  pub table_of_lists : (noted : Noted D S) (states : List (Kept D S)) (led_by : List (List Choice)) → noted.states ≡ states → noted.led_by ≡ led_by → IsTableOf never key left noted
+      → IsTableOf never key left (record { states = states; led_by = led_by; never = never })
+  table_of_lists noted states led_by e f t = record {
+    same = refl;
+    kept = record {
+      counted = sym (ap length f) ∙ t.kept.counted ∙ ap length e;
+      each = λ k x at.
+          let z = t.kept.each k x (ap (λ (l : List (Kept D S)). slice_get l k) e ∙ at) in
+          (z.0, ap (λ (l : List (List Choice)). slice_get l k) (sym f) ∙ z.1, subst (λ (n : Bool). IsKeptOf n x (key z.0)) t.same z.2);
+    };
+    nodes = λ d has. t.nodes d (subst (λ (l : List (List Choice)). Contains l d) (sym f) has);
+  }
+
+  -- the last one of a table, and the others
+  pub last_one : (all : List (Kept D S)) (ways : List (List Choice)) (states : List (Kept D S)) (led_by : List (List Choice)) (one : Kept D S) (c : List Choice) → all ≡ states ++ one ∷ [] → ways ≡ led_by ++ c ∷ []
+      → IsTableOf never key left (record { states = all; led_by = ways; never = never })
+      → IsOne one c × IsTableOf never key left (record { states = states; led_by = led_by; never = never })
+  last_one all ways states led_by one c e f t = (
+    record { kept = last_kept; node = t.nodes c (subst (λ (l : List (List Choice)). Contains l c) (sym f) (has_last led_by c)) },
+    record { same = refl; kept = record { counted = size; each = each }; nodes = λ d has. t.nodes d (subst (λ (l : List (List Choice)). Contains l d) (sym f) (has_front led_by (c ∷ []) d has)) },
+  )
+    where
+      size : length led_by ≡ length states
+      size =
+          let whole = t.kept.counted in
+          let a = ap length e ∙ length-append states (one ∷ []) in
+          let b = ap length f ∙ length-append led_by (c ∷ []) in
+          omega (arith, whole, a, b)
+
+      last_kept : IsKeptOf never one (key c)
+      last_kept =
+          let z = t.kept.each (length states) one (ap (λ (l : List (Kept D S)). slice_get l (length states)) e ∙ last_there states one) in
+          let here : slice_get ways (length states) ≡ Some c = ap (λ (l : List (List Choice)). slice_get l (length states)) f ∙ ap (λ (n : ℕ). slice_get (led_by ++ c ∷ []) n) (sym size) ∙ last_there led_by c in
+          let same : z.0 ≡ c = cc (z.1, here) in
+          subst (λ (d : List Choice). IsKeptOf never one (key d)) same z.2
+
+      each : (k : ℕ) (x : Kept D S) → slice_get states k ≡ Some x → (d : List Choice) × (slice_get led_by k ≡ Some d) × IsKeptOf never x (key d)
+      each k x at =
+          let z = t.kept.each k x (ap (λ (l : List (Kept D S)). slice_get l k) e ∙ got_front states (one ∷ []) k x at) in
+          (z.0, front_of z.0 (got_more led_by c k z.0 (ap (λ (l : List (List Choice)). slice_get l k) (sym f) ∙ z.1)), z.2)
+        where
+          front_of : (d : List Choice) → (slice_get led_by k ≡ Some d) ⊎ ((k ≡ length led_by) × (c ≡ d)) → slice_get led_by k ≡ Some d
+          front_of d (inl h) = h
+          front_of d (inr (last, same)) = let l = got_within states k x at in absurd (omega (arith, l, last, size))
+
+-- ---- two tables, one behind the other
+
+module _ {D S : Type 0} (key : List Choice → Key D S) (known : Noted D S) (kept : AreKeptAfter key known) where
+  pub both_kept : (noted : Noted D S) → known.never ≡ noted.never → AreKeptAfter key noted → AreKeptAfter key (beside known noted)
+  both_kept noted same others = record {
+    counted = (let a = length-append known.led_by noted.led_by in let b = length-append known.states noted.states in omega (arith, a, b, kept.counted, others.counted));
+    each = λ k x at. by k x (got_either known.states noted.states k x at);
+  }
+    where
+      by : (k : ℕ) (x : Kept D S) → (slice_get known.states k ≡ Some x) ⊎ ((j : ℕ) × (k ≡ length known.states + j) × (slice_get noted.states j ≡ Some x)) → (c : List Choice) × (slice_get (known.led_by ++ noted.led_by) k ≡ Some c) × IsKeptOf noted.never x (key c)
+      by k x (inl at) = let z = kept.each k x at in (z.0, got_front known.led_by noted.led_by k z.0 z.1, subst (λ (n : Bool). IsKeptOf n x (key z.0)) same z.2)
+      by k x (inr (j, i, at)) =
+          let z = others.each j x at in
+          (z.0, ap (slice_get (known.led_by ++ noted.led_by)) (i ∙ ap (λ (n : ℕ). n + j) (sym kept.counted)) ∙ got_behind known.led_by noted.led_by j z.0 z.1, z.2)
+
+  pub behind_kept : (noted : Noted D S) → AreKeptAfter key (beside known noted) → AreKeptAfter key noted
+  behind_kept noted all = record {
+    counted = (let a = length-append known.led_by noted.led_by in let b = length-append known.states noted.states in omega (arith, a, b, kept.counted, all.counted));
+    each = λ j x at.
+        let z = all.each (length known.states + j) x (got_behind known.states noted.states j x at) in
+        (z.0, behind_got known.led_by noted.led_by j z.0 (ap (λ (n : ℕ). slice_get (known.led_by ++ noted.led_by) (n + j)) kept.counted ∙ z.1), z.2);
+  }
+
+-- the states after choices that led to them
+pub key_from : {K : Type 0} (key : List Choice → K) (xs : List (List Choice)) (s : K) → Contains (map key xs) s → (c : List Choice) × Contains xs c × (key c ≡ s)
+key_from key [] s (k, l, e) = absurd (omega (arith, l))
+key_from key (x ∷ xs) s (zero, l, e) = (x, (0, omega arith, refl), e)
+key_from key (x ∷ xs) s (suc k, l, e) = let z = key_from key xs s (k, omega (arith, l), e) in (z.0, (suc z.1.0, omega (arith, z.1.1), z.1.2), z.2)
+
+-- a table is one of more paths too
+pub table_wider : {D S : Type 0} (never : Bool) (key : List Choice → Key D S) (left more : List (List Stored)) (noted : Noted D S) → ((x : List Stored) → IsOneOf x left → IsOneOf x more) → IsTableOf never key left noted → IsTableOf never key more noted
+table_wider never key left more noted sub t = record { same = t.same; kept = t.kept; nodes = λ c has. let z = t.nodes c has in (z.0, sub z.0 z.1, z.2) }
+
+-- none is
+pub table_none : {D S : Type 0} (never : Bool) (key : List Choice → Key D S) (left : List (List Stored)) → IsTableOf never key left (record { states = []; led_by = []; never = never })
+table_none never key left = record { same = refl; kept = record { counted = refl; each = λ k x at. absurd (cc at) }; nodes = λ c has. absurd (nothing c has) }
+  where
+    nothing : (c : List Choice) → Contains [] c → ⊥
+    nothing c (k, l, e) = omega arith
+
+-- ---- states of two tables
+
+-- what the first of two lists has keeps its number
+pub found_first : {X : Type 0} (xs ys : List X) (k : ℕ) (x : X) → slice_get xs k ≡ Some x → slice_get (xs ++ ys) k ≡ Some x
+found_first = got_front
+
+-- what the second has stands behind the first, if a number counts so far
+pub found_behind : {X : Type 0} (xs ys : List X) (n k : ℕ) (x : X) (P : Type 0) (found : Option ℕ) → n ≡ length xs → slice_get ys k ≡ Some x → SomeIff found P (n + k) → IfSome found (λ number. slice_get (xs ++ ys) number ≡ Some x)
+found_behind xs ys n k x P None size at is = tt
+found_behind xs ys n k x P (Some number) size at (few, is) = got_on xs ys k number x (is ∙ ap (λ (m : ℕ). m + k) size) at
+
+-- what is noted in the second one is noted behind the first
+pub notes_beside : {D S : Type 0} (known old new : Noted D S) (state : Kept D S) (c : List Choice) → NotesAs state c old new → NotesAs state c (beside known old) (beside known new)
+notes_beside known old new state c (inl (states, led_by, same)) =
+    inl (ap (λ (l : List (Kept _ _)). known.states ++ l) states ∙ sym (append_assoc known.states old.states (state ∷ [])), ap (λ (l : List (List Choice)). known.led_by ++ l) led_by ∙ sym (append_assoc known.led_by old.led_by (c ∷ [])), same)
+notes_beside known old new state c (inr same) = inr (ap (beside known) same)
+
+-- tables that are the same before and after
+pub looked_so : {D S : Type 0} (known old one two new : Noted D S) (state : Bool → Kept D S) (c : List Choice) (found : Option ℕ) → one ≡ old → new ≡ two → FindsOrNotes (state one.never) c (beside known one) found (beside known two)
+    → FindsOrNotes (state old.never) c (beside known old) found (beside known new)
+looked_so known old one two new state c found e f h =
+    subst (λ (n : Noted _ _). FindsOrNotes (state old.never) c (beside known old) found (beside known n)) (sym f) (subst (λ (n : Noted _ _). FindsOrNotes (state n.never) c (beside known n) found (beside known two)) e h)
