@@ -22,3 +22,4 @@ pub mod CoverDefaults
 pub mod CoverFrom
 pub mod CoverRounds
 pub mod CoverTexts
+pub mod CoverParts

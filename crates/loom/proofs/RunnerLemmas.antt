@@ -1,5 +1,6 @@
 pub mod Alternatives
 pub mod Asking
+pub mod Covering
 pub mod Driving
 pub mod Failing
 pub mod Finding

@@ -29,3 +29,4 @@ pub mod Cover
 pub mod CoverStores
 pub mod CoverText
 pub mod Covered
+pub mod CoverParts

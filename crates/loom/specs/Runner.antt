@@ -29,3 +29,4 @@ pub mod Shortening
 pub mod Trying
 pub mod Walking
 pub mod Workers
+pub mod Covering

@@ -3,6 +3,7 @@ pub mod preemptions;
 
 ghost use Rattle.std.specs.Fn.{CalledAtMut};
 ghost use Rattle.loom.specs.Model.Check.{TogetherLaw};
+ghost use Rattle.loom.specs.Model.CoverParts.{BeginLaw, ForgetLaw};
 ghost use Rattle.loom.specs.Model.Covered.{GoesOnLaw};
 ghost use Rattle.loom.specs.Runner.Check.{TogetherLaw as ClosuresLaw};
 
@@ -22,6 +23,16 @@ pub fn resumed_checks<D>()
 /// that is complete.
 pub fn resumed_covers<D, S>()
     ensures { GoesOnLaw D S }
+{}
+
+/// A covering search has come to a list of parts from the beginning by no run (own).
+pub fn covering_parts_begin<D, S>()
+    ensures { BeginLaw D S }
+{}
+
+/// Where what such a search has noted is forgotten, as where its list is read from a text, it has come to the list still (own).
+pub fn covering_parts_go_on<D, S>()
+    ensures { ForgetLaw D S }
 {}
 
 /// The runs of a check of closures that was stopped and of those that went on, one after another: no list of choices comes twice, and

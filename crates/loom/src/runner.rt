@@ -45,6 +45,7 @@ pub use explanations::explain;
 pub use loom_ops::answers::answer::Answer;
 pub use loom_ops::answers::mpsc::TryRecvError;
 pub use parallel::apart::Apart;
+pub use parallel::covering::cover_parallel;
 pub use parallel::visitors::Visitors;
 pub use parallel::{Found, Workers, check_parallel};
 pub use recorded::{check_parallel_recorded, check_part_recorded, check_recorded, cover_recorded};

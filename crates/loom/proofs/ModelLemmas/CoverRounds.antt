@@ -27,7 +27,7 @@ use Rattle.loom_engine.specs.Path.Steps.{Steps}
 use Rattle.loom_engine.specs.Covering.Between.{AddsRun, AreMade, ComesTo, IsReady, IsWhole, Leads, Tracks}
 use Rattle.loom_engine.specs.Covering.Covered.{IsGiven}
 use Rattle.loom_engine.specs.Covering.Cut.{with_run}
-use Rattle.loom_engine.specs.Covering.Kept.{AreKeptAfter, Key, Noted}
+use Rattle.loom_engine.specs.Covering.Kept.{AreKeptAfter, Key, Noted, beside}
 use Rattle.loom_engine.specs.Covering.Sight.{IsKnown, seen_by}
 use Rattle.loom_engine.specs.Covering.States.{state_after}
 use Rattle.loom_engine.specs.Covering.Lost.{AreLost}
@@ -53,6 +53,7 @@ use Rattle.loom.specs.Model.Covered.{AllCanEnd, Claims, ClaimsTogether, Covering
 use Rattle.loom.specs.Model.CoverStores.{HeldBack, IsCoverBegun, IsCoverKept, IsCoverSaved, IsNoBeginning, IsNoReport}
 use Rattle.loom.specs.Model.Refusals.{of_path}
 use Rattle.loom.specs.declared.model.error.CheckError.{CheckError}
+use Rattle.loom.specs.declared.model.error.CheckError.TheVariants.{Memory}
 use Rattle.loom_engine.specs.declared.rt.path.checkpoint.error.PathError.{PathError}
 use Rattle.std.specs.Result.{IsErrAnd}
 use Rattle.loom.specs.Model.CoverText.{CoverReadsAs, IsCoverTextOf, IsNoCoverText, cover_data}
@@ -96,7 +97,7 @@ module _ {V D S : Type 0} (b : Builder) (next : Meaning D S) (body : S) (takes :
   fair = (marking_law None).0
 
   sound_tree : IsSoundTree tree
-  sound_tree = body_sound next (explores b) b.max_threads b.max_steps b.max_branches (marking None) fair body
+  sound_tree = body_sound false next (explores b) b.max_threads b.max_steps b.max_branches (marking None) fair body (λ is. absurd (cc is))
 
   shut : EndsUnchosen tree
   shut = unchosen_law next (explores b) b.max_threads b.max_steps body
@@ -211,6 +212,14 @@ module _ {V D S : Type 0} (b : Builder) (next : Meaning D S) (body : S) (takes :
     ran_so path threads steps noted ending after more e f rests are h =
         let same = same_noting path threads steps noted e f rests in
         subst (λ (r : Noting D S). EndsWith next r ending after more) same (h (subst (λ (r : Noting D S). AreNoted next r) (sym same) are))
+
+    -- where no states are known besides
+    pub ran_alone : (path : Route) (threads steps : ℕ) (known noted : Noted D S) (ending : Ending D) (after : Route) (more : Noted D S) → threads ≡ b.max_threads → steps ≡ b.max_steps
+        → path ≡ at_rest (whole_search b.max_branches) (explores b) path.nodes → known ≡ record { states = []; led_by = []; never = false } → AreKeptAfter (key noted.never) noted
+        → (AreNoted next (noting threads steps body path (beside known noted)) → EndsWith next (noting threads steps body path (beside known noted)) ending after (beside known more)) → EndsWith next (along path noted) ending after more
+    ran_alone path threads steps known noted ending after more e f rests none are h =
+        ran_so path threads steps noted ending after more e f rests are
+        (subst (λ (k : Noted D S). AreNoted next (noting threads steps body path (beside k noted)) → EndsWith next (noting threads steps body path (beside k noted)) ending after (beside k more)) none h)
 
     -- ---- rounds
 
@@ -741,6 +750,11 @@ no_cover_beginning b gives no_run (Err x) e none not_begun is = by (subst (IsNoB
     by : IsNoBeginning b gives x → IsNoReport b gives no_run x
     by (inl no_save) = inl no_save
     by (inr refused) = inr (inr refused, none)
+
+-- memory was refused
+pub no_cover_memory : {A : Type 0} (b : Builder) (gives : Option (List ℕ) → Type 0) (no_run : Type 0) (result : Result A CheckError) → IsErrAnd result (λ e. e ≡ Memory) → IfErr result (IsNoReport b gives no_run)
+no_cover_memory b gives no_run (Ok value) is = tt
+no_cover_memory b gives no_run (Err e) is = inl (inl is)
 
 -- where a check was stopped another one goes on
 pub goes_on_law : {D S : Type 0} → GoesOnLaw D S

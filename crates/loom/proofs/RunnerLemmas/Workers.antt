@@ -28,6 +28,7 @@ use Rattle.loom_engine.proofs.Parts.Disjoint.{disjoint_law}
 use Rattle.loom_engine.proofs.Parts.Driven.{rests_on}
 use Rattle.loom_engine.proofs.Parts.Floors.{to_choices}
 use Rattle.loom_engine.proofs.Parts.Giving.{fronted, bases_once}
+use Rattle.loom_engine.proofs.Parts.Keeping.{work_steps}
 use Rattle.loom_engine.proofs.Parts.Lasting.{parts_law}
 use Rattle.loom_engine.proofs.Parts.Lists.{bases as bases_of}
 use Rattle.loom_engine.proofs.Parts.Slices.{noted_is, is_noted, slice_law, left_begins}
@@ -116,7 +117,7 @@ none_later [] later j y h at i = absurd (cc at)
 none_later (q ∷ xs) later zero y h at i = let e : q ≡ y = cc at in (once_end xs (part_of q ∷ later) h).0 (subst (λ (k : Kept). Member k.base.items (bases_of later)) (sym e) i)
 none_later (q ∷ xs) later (suc j) y h at i = none_later xs (part_of q ∷ later) j y h at (inr i)
 
-apart : (xs : List Kept) (later : List Part) (i j : ℕ) (x y : Kept) → IsOnce (bases_of (views_onto xs later)) → i < j → slice_get xs i ≡ Some x → slice_get xs j ≡ Some y → x.base.items ≡ y.base.items → ⊥
+pub apart : (xs : List Kept) (later : List Part) (i j : ℕ) (x y : Kept) → IsOnce (bases_of (views_onto xs later)) → i < j → slice_get xs i ≡ Some x → slice_get xs j ≡ Some y → x.base.items ≡ y.base.items → ⊥
 apart [] later i j x y h l at there e = absurd (cc at)
 apart (q ∷ xs) later zero zero x y h l at there e = absurd (omega arith)
 apart (q ∷ xs) later zero (suc j) x y h l at there e =
@@ -267,11 +268,11 @@ module _ {D : Type 0} (b : Builder) (tree : Tree D) (sound : IsRunTree tree) whe
     led_unmade : (number : ℕ) (q : Kept) → slice_get parts.list.items number ≡ Some q → (runs : List (List Choice)) (last : List Stored)
         → HasLed m (length q.base.items) (stored q.path.nodes) runs last → Reachable m (run_of m last) × (Member (run_of m last) made → ⊥)
     led_unmade number q stands runs last (inl e) =
-        let w = fronted parts.list.items parts.trunk.items number q (remove parts.list.items number) stands refl m made at in
+        let w = fronted parts.list.items parts.trunk.items number q (remove parts.list.items number) stands refl (Work m made) (work_steps m made) at.0 at.1 in
         subst (λ (p : List Stored). Reachable m (run_of m p) × (Member (run_of m p) made → ⊥)) (sym e.1)
         (next_unmade made q.base.items (stored q.path.nodes) (views (remove parts.list.items number)) at.0 (keys parts.trunk.items) [] w)
     led_unmade number q stands runs last (inr s) =
-        let w = fronted parts.list.items parts.trunk.items number q (remove parts.list.items number) stands refl m made at in
+        let w = fronted parts.list.items parts.trunk.items number q (remove parts.list.items number) stands refl (Work m made) (work_steps m made) at.0 at.1 in
         let rest = slice_rests (length q.base.items) (stored q.path.nodes) (law number q stands) runs last s in
         let z = left_begins m is_machine made q.base.items (stored q.path.nodes) (views (remove parts.list.items number)) at.0 (keys parts.trunk.items) [] w runs last s in
         let more = noted_in [] (length q.base.items) last in

@@ -1,11 +1,13 @@
 //! Checks that remember states, and so cover every run of a body. At each first branch point of an operation past the nodes of its
 //! path a run's state is looked up: if it was noted the run is given up there, since what comes then is tried from where it was
 //! noted; otherwise it is noted. From the ways that runs went between such states it is known whether each of them leads to an end.
+pub mod part;
+pub mod part_texts;
 pub mod run;
 pub(crate) mod saving;
 pub mod text;
 
-ghost use Rattle.std.specs.Prelude.{◌≡◌, ◌≤◌, ◌<◌, [], Err, IfOk, IfErr, OnErr};
+ghost use Rattle.std.specs.Prelude.{◌≡◌, ◌≤◌, ◌<◌, [], Err, IfOk, IfErr, OnErr, false};
 ghost use Rattle.loom_engine.specs.Covering.Sight.{IsKnown};
 ghost use Rattle.loom.specs.Model.CoverStores.{IsNoReport, StillHolds};
 ghost use Rattle.loom.specs.Model.Covered.{Covering, CoveringAlone, FailsAlong, IsToldBy};
@@ -168,11 +170,13 @@ impl Builder {
     {
         self.test()?;
         let mut room = Room::new(alloc, self.limits())?;
+        let known = States::none(alloc, false);
         let mut states = States::new(alloc, most_states, body.never_switches())?;
         let covered = self.cover_rounds::<B, Choices, R, C, S, L>(
             alloc,
             body,
             &mut room,
+            &known,
             &mut states,
             receiver,
             clock,
@@ -183,7 +187,7 @@ impl Builder {
         covered
     }
 
-    /// Makes one run after another with these states, of which none is noted yet. The settings were tested.
+    /// Makes one run after another with these states, of which none is noted yet, and no others are known. The settings were tested.
     fn cover_rounds<
         B: Body + Same,
         Choices,
@@ -196,6 +200,7 @@ impl Builder {
         alloc: Global,
         body: &B,
         room: &mut Room<B>,
+        known: &States<B::Data, B>,
         states: &mut States<B::Data, B>,
         receiver: &mut R,
         clock: &mut C,
@@ -208,6 +213,7 @@ impl Builder {
         requires few { self.now.max_threads ≤ 5 }
         requires branches { self.now.max_branches ≤ 1000000 }
         requires interval { 0 < self.now.checkpoint_interval }
+        requires unknown { known.now ≡ record { states = []; led_by = []; never = false } }
         requires none { states.old ≡ record { states = []; led_by = []; never = states.old.never } }
         requires known { IsKnown states.old.never B.next body.now }
         ensures covers { IfOk result (Covering R.receives receiver.old receiver.new self.now B.next body.now (S.gives store.old) (S.holds store.new) (C.answered clock.new)) }
@@ -227,7 +233,7 @@ impl Builder {
             }
             until_save = keep(alloc, &path, store, log, runs + met, interval, until_save)?;
             let noted = states.len();
-            let to = match run(room, self.limits(), body, &mut path, states)? {
+            let to = match run(room, self.limits(), body, &mut path, known, states)? {
                 Ending::Ended(value) => {
                     receiver.receive(alloc, &path, value)?;
                     runs += 1;

@@ -17,6 +17,7 @@ use crate::model::search::BodyRuns;
 use crate::model::visitor::Visitor;
 use log::Log;
 use loom_engine::rt::parts::Part;
+use loom_engine::rt::parts::error::PartsError;
 use loom_engine::rt::path::Path;
 use loom_objects::body::Body;
 use loom_objects::choice::Choice;
@@ -213,5 +214,17 @@ where
                 Ok(Round::Last)
             }
         }
+    }
+}
+
+/// What it means for a check that a text has no parts.
+pub(crate) fn refusal_of(why: PartsError) -> CheckError {
+    match why {
+        PartsError::NotJson => CheckError::NotJson,
+        PartsError::WrongFormat | PartsError::WrongShape => CheckError::WrongShape,
+        PartsError::WrongVersion(version) => CheckError::WrongVersion(version),
+        PartsError::Path(why) => CheckError::from(why),
+        PartsError::WrongFloor(_) | PartsError::BadOption => CheckError::BadNode,
+        PartsError::Memory(_) => CheckError::Memory,
     }
 }

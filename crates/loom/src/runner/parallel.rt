@@ -1,5 +1,6 @@
 //! Checks of a body by several threads of the host at once (own): each works on a part of the search for a while and gives it back.
 pub mod apart;
+pub mod covering;
 pub(crate) mod progress;
 pub(crate) mod round;
 pub mod texts;

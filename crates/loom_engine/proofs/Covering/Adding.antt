@@ -216,8 +216,8 @@ pub table_wider : {D S : Type 0} (never : Bool) (key : List Choice → Key D S) 
 table_wider never key left more noted sub t = record { same = t.same; kept = t.kept; nodes = λ c has. let z = t.nodes c has in (z.0, sub z.0 z.1, z.2) }
 
 -- none is
-pub table_none : {D S : Type 0} (never : Bool) (key : List Choice → Key D S) (left : List (List Stored)) → IsTableOf never key left (record { states = []; led_by = []; never = never })
-table_none never key left = record { same = refl; kept = record { counted = refl; each = λ k x at. absurd (cc at) }; nodes = λ c has. absurd (nothing c has) }
+pub table_none : {D S : Type 0} (never : Bool) (key : List Choice → Key D S) (left : List (List Stored)) (known : Bool) → known ≡ never → IsTableOf never key left (record { states = []; led_by = []; never = known })
+table_none never key left known same = record { same = same; kept = record { counted = refl; each = λ k x at. absurd (cc at) }; nodes = λ c has. absurd (nothing c has) }
   where
     nothing : (c : List Choice) → Contains [] c → ⊥
     nothing c (k, l, e) = omega arith

@@ -5,7 +5,7 @@ pub(crate) mod tasks;
 pub(crate) mod threads;
 pub mod ways;
 
-ghost use Rattle.std.specs.Prelude.{◌≡◌, [], IfOk, IfSome, IsTrue, ◌++◌, Bool, List, false, length, slice_get, Some};
+ghost use Rattle.std.specs.Prelude.{◌≡◌, [], IfOk, IfSome, IsTrue, ◌++◌, Bool, List, length, slice_get, Some};
 ghost use Rattle.loom_objects.specs.declared.choice.Choice.{Choice as Chosen};
 ghost use Rattle.loom_engine.specs.Covering.Kept.{FindsOrNotes, HasScene, Key, NotesAs, beside, state_in};
 ghost use Rattle.loom_engine.specs.Covering.Points.{yields_seen};
@@ -202,9 +202,9 @@ impl<D: Data + Same, B: Body + Same> States<D, B> {
         })
     }
 
-    /// None, and no room for any (own).
-    pub fn none(alloc: Global) -> States<D, B>
-        ensures { result ≡ record { states = []; led_by = []; never = false } }
+    /// None, and no room for any, of a body that is known never to switch whether the search explores, or of any (own).
+    pub fn none(alloc: Global, never_switches: bool) -> States<D, B>
+        ensures { result ≡ record { states = []; led_by = []; never = never_switches } }
     {
         States {
             states: Sequence::new(alloc),
@@ -214,18 +214,21 @@ impl<D: Data + Same, B: Body + Same> States<D, B> {
             digests: Vec::new(alloc),
             spare: None,
             most: 0,
-            never_switches: false,
+            never_switches,
             alloc,
         }
     }
 
-    /// A table of no states beside this one, of the same body, for as many as this one may have more (own). An error where memory is
-    /// refused.
-    pub fn beside(&self, alloc: Global) -> Result<States<D, B>, AllocError>
-        ensures { IfOk result (λ states. states ≡ record { states = []; led_by = []; never = self.now.never }) }
+    /// A table of no states beside this one, of the same body, for as many as this one may have more (own). Where there is no memory for
+    /// one nothing is noted in it.
+    pub fn beside(&self, alloc: Global) -> States<D, B>
+        ensures { result ≡ record { states = []; led_by = []; never = self.now.never } }
     {
         let most = self.most.saturating_sub(self.states.len());
-        States::new(alloc, most, self.never_switches)
+        match States::new(alloc, most, self.never_switches) {
+            Ok(states) => states,
+            Err(_) => States::none(alloc, self.never_switches),
+        }
     }
 
     /// How many were noted.

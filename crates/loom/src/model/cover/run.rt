@@ -1,6 +1,7 @@
 //! One run of a search that remembers states, along its path. Where an operation comes to its first branch point past the path's
 //! nodes, and the run explores there, its state is looked up: if it was noted the run is given up, and otherwise it is noted.
-ghost use Rattle.std.specs.Prelude.{◌≡◌, ◌≤◌, ◌+◌, [], None, IfOk, OnOk};
+ghost use Rattle.std.specs.Prelude.{◌≡◌, ◌≤◌, ◌+◌, ◌⊎◌, [], None, IfOk, OnOk};
+ghost use Rattle.loom_engine.specs.Covering.Kept.{beside};
 ghost use Rattle.loom_engine.specs.Path.Route.{IsAtStart, IsSameSearch};
 ghost use Rattle.loom_engine.specs.Trees.Meeting.{whole_search};
 ghost use Rattle.loom_objects.specs.declared.operation.Reply.TheVariants.{Start};
@@ -45,13 +46,14 @@ pub enum Found {
     New,
 }
 
-/// One run of the body along the path, from its start, with these states. An error only where a growth was refused, in the run,
-/// the body or for a state.
+/// One run of the body along the path, from its start, with the states that are known and these, among which new ones are noted. The
+/// number of a state counts those that are known first. An error only where a growth was refused, in the run, the body or for a state.
 pub(crate) fn run<B: Body + Same>(
     room: &mut Room<B>,
     limits: Limits,
     body: &B,
     path: &mut Path,
+    known: &States<B::Data, B>,
     states: &mut States<B::Data, B>,
 ) -> Result<Ending<B::Data>, AllocError>
 where
@@ -61,14 +63,14 @@ where
     requires starts { IsAtStart path.old.explores path.old }
     requires unguided { path.old.given ≡ [] }
     requires whole { path.old.search ≡ whole_search path.old.search.max_branches }
-    ensures along { AreNoted B.next (noting limits.max_threads limits.max_steps body.now path.old states.old)
-        → IfOk result (λ ending. EndsWith B.next (noting limits.max_threads limits.max_steps body.now path.old states.old) ending path.new states.new) }
+    ensures along { AreNoted B.next (noting limits.max_threads limits.max_steps body.now path.old (beside known.now states.old))
+        → IfOk result (λ ending. EndsWith B.next (noting limits.max_threads limits.max_steps body.now path.old (beside known.now states.old)) ending path.new (beside known.now states.new)) }
     ensures same { IsSameSearch path.old path.new }
 {
     room.bodies.clear();
     room.bodies.push(body.try_clone()?)?;
     room.execution.restart(limits)?;
-    take_turns(&mut room.execution, &mut room.bodies, path, states)
+    take_turns(&mut room.execution, &mut room.bodies, path, known, states)
 }
 
 /// From its start the run goes on by turns, until it ends, fails or is given up. An error only where a growth was refused.
@@ -76,12 +78,13 @@ fn take_turns<B: Body + Same>(
     execution: &mut Execution<B::Data>,
     bodies: &mut Vec<B>,
     path: &mut Path,
+    known: &States<B::Data, B>,
     states: &mut States<B::Data, B>,
 ) -> Result<Ending<B::Data>, AllocError>
 where
     B::Data: Same,
     requires { execution.old.over ≡ None }
-    ensures along { (run : Noting B.Data B) → IsUnderWay B.next run bodies.old.items execution.old.run path.old 0 Start states.old → IfOk result (λ ending. EndsWith B.next run ending path.new states.new) }
+    ensures along { (run : Noting B.Data B) → IsUnderWay B.next run bodies.old.items execution.old.run path.old 0 Start (beside known.now states.old) → IfOk result (λ ending. EndsWith B.next run ending path.new (beside known.now states.new)) }
     ensures same { IsSameSearch path.old path.new }
 {
     let mut thread = 0u8;
@@ -94,7 +97,7 @@ where
         }
         let body = &mut bodies[place];
         let op = body.resume(reply)?;
-        match submit(execution, bodies, path, states, op) {
+        match submit(execution, bodies, path, known, states, op) {
             Ok(Turn::Reply(next, told)) => {
                 thread = next;
                 reply = told;
@@ -135,13 +138,14 @@ fn submit<B: Body + Same>(
     execution: &mut Execution<B::Data>,
     bodies: &mut Vec<B>,
     path: &mut Path,
+    known: &States<B::Data, B>,
     states: &mut States<B::Data, B>,
     op: Op<B::Data, B>,
 ) -> Result<Turn<B::Data>, Halt>
 where
     B::Data: Same,
     requires { execution.old.over ≡ None }
-    ensures event { (run : Noting B.Data B) → IsHanding B.next run bodies.old.items execution.old.run path.old op states.old → ComesTo B.next run result bodies.new.items execution.new.run path.new states.new }
+    ensures event { (run : Noting B.Data B) → IsHanding B.next run bodies.old.items execution.old.run path.old op (beside known.now states.old) → ComesTo B.next run result bodies.new.items execution.new.run path.new (beside known.now states.new) }
     ensures open { StaysOpen result execution.new.over }
     ensures steps { OnOk result (execution.old.run.state.steps_left ≡ execution.new.run.state.steps_left + 1) }
     ensures same { IsSameSearch path.old path.new }
@@ -155,7 +159,7 @@ where
         Ok(()) => match execution.begin(path, request) {
             Err(stop) => Err(Halt::Stopped(stop)),
             Ok(Begun::Turn(turn)) => Ok(turn),
-            Ok(Begun::AtBranch) => pass(execution, bodies.as_slice(), path, states),
+            Ok(Begun::AtBranch) => pass(execution, bodies.as_slice(), path, known, states),
         },
     }
 }
@@ -166,15 +170,16 @@ pub(crate) fn pass<D: Data + Same, B: Body + Same>(
     execution: &mut Execution<D>,
     bodies: &[B],
     path: &mut Path,
+    known: &States<D, B>,
     states: &mut States<D, B>,
 ) -> Result<Turn<D>, Halt>
     requires { execution.old.over ≡ None }
-    ensures event { Passes bodies.now execution.old path.old states.old result execution.new path.new states.new }
+    ensures event { Passes bodies.now execution.old path.old (beside known.now states.old) result execution.new path.new (beside known.now states.new) }
     ensures open { StaysOpen result execution.new.over }
     ensures steps { execution.new.run.state.steps_left ≡ execution.old.run.state.steps_left }
     ensures same { IsSameSearch path.old path.new }
 {
-    match look_up(execution, bodies, path, states) {
+    match look_up(execution, bodies, path, known, states) {
         Err(_) => Err(Halt::Stopped(Stop::Memory)),
         Ok(Found::Known(number)) => Err(Halt::Met(number)),
         Ok(Found::New) => match execution.schedule(path) {
@@ -184,16 +189,17 @@ pub(crate) fn pass<D: Data + Same, B: Body + Same>(
     }
 }
 
-/// Looks the state of the run up, if it explores past its path's nodes. If the state wasn't noted it is noted. An error where memory
-/// is refused.
+/// Looks the state of the run up, if it explores past its path's nodes: among those that were known, and those that were noted since. If
+/// it isn't there it is noted. An error where memory is refused.
 #[tactic(auto, using(crate::proofs::ModelLemmas::Covering::not_looked_up))]
 fn look_up<D: Data + Same, B: Body + Same>(
     execution: &Execution<D>,
     bodies: &[B],
     path: &Path,
+    known: &States<D, B>,
     states: &mut States<D, B>,
 ) -> Result<Found, AllocError>
-    ensures { IfOk result (λ found. LooksUpRun execution.now.run bodies.now path.now states.old found states.new) }
+    ensures { IfOk result (λ found. LooksUpRun execution.now.run bodies.now path.now (beside known.now states.old) found (beside known.now states.new)) }
 {
     if !path.explores_now() {
         return Ok(Found::New);
@@ -201,7 +207,7 @@ fn look_up<D: Data + Same, B: Body + Same>(
     if !path.is_used_up() {
         return Ok(Found::New);
     }
-    match states.look_up(execution, bodies, path)? {
+    match states.look_up(known, execution, bodies, path)? {
         Some(number) => Ok(Found::Known(number)),
         None => Ok(Found::New),
     }

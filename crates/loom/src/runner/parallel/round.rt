@@ -1,5 +1,6 @@
 //! A turn of several workers: each works on a part for a while, and then the parts are given back.
 ghost use Rattle.std.specs.Prelude.{◌≡◌, ◌≤◌, ◌<◌, ◌*◌, ◌^◌, ◌⊎◌, ℕ, IfOk, Some, length, max};
+ghost use Rattle.loom_engine.specs.Covering.Spread.{SpreadsOn};
 ghost use Rattle.loom_engine.specs.Parts.Keeping.{Cuts};
 ghost use Rattle.loom_engine.specs.Runs.Body.{runs as runs_of};
 ghost use Rattle.loom.specs.Model.Settings.{explores};
@@ -80,7 +81,7 @@ impl Workers {
     }
 
     /// How much time a turn has with so many parts, if that is limited.
-    fn time_with(self, parts: usize) -> Option<Duration> {
+    pub(crate) fn time_with(self, parts: usize) -> Option<Duration> {
         let until = self.slice.until?;
         let few = Duration::from_millis(FEW_PARTS_MILLIS);
         if parts < self.count && few < until {
@@ -267,13 +268,17 @@ impl Turn {
         ensures runs { self.new.runs ≡ self.old.runs }
         ensures lost { (self.new.lost ≡ self.old.lost) ⊎ (self.new.lost ≡ Some lost) }
     {
-        let is_first = match &self.lost {
-            Some(other) => comes_before(&lost, other),
-            None => true,
-        };
-        if is_first {
+        if is_first_of(&lost, &self.lost) {
             self.lost = Some(lost);
         }
+    }
+}
+
+/// Whether it comes first in the order of the walk, if there is another one.
+pub(crate) fn is_first_of(lost: &Lost, other: &Option<Lost>) -> bool {
+    match other {
+        Some(other) => comes_before(lost, other),
+        None => true,
     }
 }
 
@@ -314,7 +319,8 @@ fn rank(default: Option<u8>, option: Choice) -> u8 {
 
 /// Cuts parts, the largest ones first, while there are fewer than three for each worker.
 pub(crate) fn cut_up(alloc: Global, parts: &mut Parts, workers: usize) -> Result<(), AllocError>
-    ensures { IfOk result (λ _. Cuts parts.old parts.new) }
+    ensures cuts { IfOk result (λ _. Cuts parts.old parts.new) }
+    ensures spreads { IfOk result (λ _. SpreadsOn parts.old parts.new) }
 {
     let wanted = workers.saturating_mul(PARTS_FOR_EACH);
     for _ in 0..MOST_CUTS {

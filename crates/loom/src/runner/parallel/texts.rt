@@ -4,6 +4,7 @@ ghost use Rattle.loom.specs.Model.Settings.{tested};
 
 use crate::model::builder::Builder;
 use crate::model::error::CheckError;
+use crate::model::parts::refusal_of;
 use crate::model::paths::path_search;
 use loom_engine::rt::parts::error::PartsError;
 use loom_engine::rt::parts::{Part, Parts};
@@ -37,17 +38,5 @@ impl Builder {
             Ok(part) => Ok(part),
             Err(why) => Err(refusal_of(why)),
         }
-    }
-}
-
-/// What it means for a check that a text has no parts.
-fn refusal_of(why: PartsError) -> CheckError {
-    match why {
-        PartsError::NotJson => CheckError::NotJson,
-        PartsError::WrongFormat | PartsError::WrongShape => CheckError::WrongShape,
-        PartsError::WrongVersion(version) => CheckError::WrongVersion(version),
-        PartsError::Path(why) => CheckError::from(why),
-        PartsError::WrongFloor(_) | PartsError::BadOption => CheckError::BadNode,
-        PartsError::Memory(_) => CheckError::Memory,
     }
 }

@@ -2,7 +2,7 @@
 mod learning;
 mod run;
 
-ghost use Rattle.std.specs.Prelude.{◌≡◌, ◌≤◌, ◌<◌, [], IfErr, IfOk, List, OnErr, OnOk};
+ghost use Rattle.std.specs.Prelude.{◌≡◌, ◌≤◌, ◌<◌, [], IfErr, IfOk, List, OnErr, OnOk, false};
 ghost use Rattle.std.specs.Fn.{CalledAtMut};
 ghost use Rattle.loom_engine.specs.Path.Route.{chosen};
 ghost use Rattle.loom.specs.Model.CoverStores.{StillHolds};

@@ -25,7 +25,7 @@ turns-preserved g c =
     let further = come_further takes is_new joins b tree sound c.args.parts.now c.args.visitors.now c.turns.parts c.make_turn.new.parts c.turns.visitors c.make_turn.new.visitors c.turns.runs turn z.gone c.in_ok-turn.ensures.takes in
     record {
       within = (let l = c.in_ok-turn.ensures.within in let f = c.within-sharing.ensures.fits in let w = z.within in omega (arith, l, f, w));
-      gone = come_cut takes is_new joins b tree sound c.args.parts.now c.args.visitors.now c.make_turn.new.parts c.cut_up.new.parts c.make_turn.new.visitors _ further c.in_ok-cut_up.ensures;
+      gone = come_cut takes is_new joins b tree sound c.args.parts.now c.args.visitors.now c.make_turn.new.parts c.cut_up.new.parts c.make_turn.new.visitors _ further c.in_ok-cut_up.ensures.cuts;
     }
 
 pub returns-then-is_over-clause-finds : goal.returns-then-is_over-clause-finds
@@ -35,7 +35,7 @@ returns-then-is_over-clause-finds g c =
     let sound = run_tree_law g.B.Body.next (explores b) b.max_threads b.max_steps c.args.body.now in
     let z = c.turns.invariant in
     finds_complete g.V.Visitor.takes g.G.Visitors.is_new g.G.Visitors.joins b tree sound c.args.parts.now c.args.visitors.now (g.C.Clock.answered c.turns.clock) c.turns.parts c.turns.visitors c.turns.runs z.within z.gone
-    (c.is_over.ensures c.if-is_over.true)
+    (c.is_over.ensures.all c.if-is_over.true)
 
 pub returns-in-Some-reached-clause-finds : goal.returns-in-Some-reached-clause-finds
 returns-in-Some-reached-clause-finds g c =

@@ -216,7 +216,8 @@ fn submit<D: Data + Same>(
     }
 }
 
-/// The schedule at the first branch point of an operation, or the run is given up there. The threads are at these places.
+/// The schedule at the first branch point of an operation, or the run is given up there. The threads are at these places, and no states
+/// are known besides.
 fn pass_at<D: Data + Same>(
     execution: &mut Execution<D>,
     places: &[usize],
@@ -230,8 +231,9 @@ fn pass_at<D: Data + Same>(
     ensures steps { execution.new.run.state.steps_left ≡ execution.old.run.state.steps_left }
     ensures same { IsSameSearch path.old path.new }
 {
+    let known = States::none(*Vec::allocator(standing), false);
     match stand(places, standing) {
-        Ok(()) => pass(execution, standing.as_slice(), path, states),
+        Ok(()) => pass(execution, standing.as_slice(), path, &known, states),
         Err(_) => Err(Halt::Stopped(Stop::Memory)),
     }
 }

@@ -1,10 +1,10 @@
-use Rattle.std.proofs.Common.{◌≡◌, ◌+◌, ◌<◌, ◌≤◌, [], inr, refl, arith, rules, ap, sym, ◌∙◌, subst}
+use Rattle.std.proofs.Common.{◌≡◌, ◌+◌, ◌<◌, ◌≤◌, inr, refl, arith, rules, ap, sym, ◌∙◌, subst}
 use Rattle.loom_objects.specs.Exploring.{initially}
 use Rattle.loom_engine.specs.Covering.Between.{AddsRun, IsReady, IsWhole}
 use Rattle.loom_engine.specs.Path.Route.{Route, chosen}
 use Rattle.loom_engine.specs.Trees.Meeting.{whole_search}
 use Rattle.loom.specs.Model.Covered.{IsToldBy}
-use Rattle.loom.proofs.ModelLemmas.CoverRounds.{HasAdded, HasRun, checking_fails, checking_kept, checking_left, checking_starts, checking_stops, left_late, no_cover_beginning, ran_so, run_ended, run_met}
+use Rattle.loom.proofs.ModelLemmas.CoverRounds.{HasAdded, HasRun, checking_fails, checking_kept, checking_left, checking_starts, checking_stops, left_late, no_cover_beginning, ran_alone, run_ended, run_met}
 use Rattle.loom.proofs.ModelLemmas.Errors.{on_error, uncounted}
 use Rattle.loom.proofs.model.builder.Builder.cover_rounds.Goals.{in-Ended+in_ok-receive-in-Ended, in-Met}
 use Rattle.loom.proofs.model.builder.Builder.cover_rounds.Goals as goal
@@ -127,8 +127,8 @@ returns-in-Failed-clause-covers g c =
     c.loop-limit.until_save c.in_ok-until_save.until_save z.few c.in_ok-until_save.ensures.kept in
     let here = kept.1 in
     let few : kept.0 + 1 ≤ b.checkpoint_interval = omega (arith, kept.2) in
-    let ran = ran_so b g.B.Body.next c.args.body.now g.R.Receiver.receives c.args.receiver.now here.start path c.limits.result.max_threads c.limits.result.max_steps noted came after more c.limits.ensures.threads
-    c.limits.ensures.steps here.covering.rests here.covering.explained c.in_ok-value.ensures.along in
+    let ran = ran_alone b g.B.Body.next c.args.body.now g.R.Receiver.receives c.args.receiver.now here.start path c.limits.result.max_threads c.limits.result.max_steps c.args.known.now noted came after more c.limits.ensures.threads
+    c.limits.ensures.steps here.covering.rests c.requires.unknown here.covering.explained c.in_ok-value.ensures.along in
     rw c.failed.ensures
     (checking_fails b g.B.Body.next c.args.body.now g.R.Receiver.receives c.args.receiver.now gives now path visitor count kept.0 noted ways here few answered after more came ran c.in-Failed.failure
     c.in_ok-failing-in-Failed.failing.failure c.in_ok-failing-in-Failed.failing.choices c.loop-limit.met c.len-in-Failed.result c.in-Failed.is c.in_ok-failing-in-Failed.ensures)
@@ -152,8 +152,8 @@ returns-then-not-step-clause-covers g c =
     c.loop-limit.until_save c.in_ok-until_save.until_save z.few c.in_ok-until_save.ensures.kept in
     let here = kept.1 in
     let few : kept.0 + 1 ≤ b.checkpoint_interval = omega (arith, kept.2) in
-    let ran = ran_so b g.B.Body.next c.args.body.now g.R.Receiver.receives c.args.receiver.now here.start path c.limits.result.max_threads c.limits.result.max_steps noted came after more c.limits.ensures.threads
-    c.limits.ensures.steps here.covering.rests here.covering.explained c.in_ok-value.ensures.along in
+    let ran = ran_alone b g.B.Body.next c.args.body.now g.R.Receiver.receives c.args.receiver.now here.start path c.limits.result.max_threads c.limits.result.max_steps c.args.known.now noted came after more c.limits.ensures.threads
+    c.limits.ensures.steps here.covering.rests c.requires.unknown here.covering.explained c.in_ok-value.ensures.along in
     let new = c.match-branch-5.receiver in
     let counted = c.match-branch-5.runs in
     let made = c.as_slice.result.now in
@@ -196,8 +196,8 @@ loop-limit-preserved g c =
     c.loop-limit.until_save c.in_ok-until_save.until_save z.few c.in_ok-until_save.ensures.kept in
     let here = kept.1 in
     let few : kept.0 + 1 ≤ b.checkpoint_interval = omega (arith, kept.2) in
-    let ran = ran_so b g.B.Body.next c.args.body.now g.R.Receiver.receives c.args.receiver.now here.start path c.limits.result.max_threads c.limits.result.max_steps noted came after more c.limits.ensures.threads
-    c.limits.ensures.steps here.covering.rests here.covering.explained c.in_ok-value.ensures.along in
+    let ran = ran_alone b g.B.Body.next c.args.body.now g.R.Receiver.receives c.args.receiver.now here.start path c.limits.result.max_threads c.limits.result.max_steps c.args.known.now noted came after more c.limits.ensures.threads
+    c.limits.ensures.steps here.covering.rests c.requires.unknown here.covering.explained c.in_ok-value.ensures.along in
     let new = c.match-branch-5.receiver in
     let counted = c.match-branch-5.runs in
     let made = c.as_slice.result.now in

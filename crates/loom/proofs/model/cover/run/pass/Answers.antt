@@ -1,5 +1,6 @@
 use Rattle.std.proofs.Common.{refl}
 use Rattle.std.specs.Prelude.{Ok}
+use Rattle.loom_engine.specs.Covering.Kept.{beside}
 use Rattle.loom.proofs.ModelLemmas.Covering.{over_scheduled, schedule_stops, stays_so}
 use Rattle.loom.proofs.model.cover.run.pass.Goals as goal
 
@@ -8,7 +9,8 @@ returns-in-Ok-Known-clause-event g c = (rw c.in-Ok-Known.field-0-is at c.in-Ok-K
 
 pub returns-in-Err-schedule-clause-event : goal.returns-in-Err-schedule-clause-event
 returns-in-Err-schedule-clause-event g c =
-    schedule_stops c.args.bodies.now c.args.execution.now c.schedule.new.self c.args.path.now c.schedule.new.path c.args.states.now c.look_up.new.states c.in-Err-schedule.stop c.in-Err-schedule.ensures.event
+    schedule_stops c.args.bodies.now c.args.execution.now c.schedule.new.self c.args.path.now c.schedule.new.path (beside c.args.known.now c.args.states.now) (beside c.args.known.now c.look_up.new.states)
+    c.in-Err-schedule.stop c.in-Err-schedule.ensures.event
 
 pub returns-in-Ok-clause-event : goal.returns-in-Ok-clause-event
 returns-in-Ok-clause-event g c = (rw c.in-Ok-New.field-0-is at c.in-Ok-New.ensures, c.in-Ok.ensures.event)

@@ -1,3 +1,4 @@
+use Rattle.loom_engine.specs.Covering.Kept.{beside}
 use Rattle.loom.proofs.ModelLemmas.Covering.{begun_branches, begun_stops, begun_turns, on_ok, over_then, passes_so, stays_open}
 use Rattle.loom.proofs.ModelLemmas.Handing.{joined}
 use Rattle.loom_engine.specs.declared.rt.execution.Begun.TheVariants as begun
@@ -5,12 +6,12 @@ use Rattle.loom.proofs.model.cover.run.submit.Goals as goal
 
 pub returns-in-Err-begin-clause-event : goal.returns-in-Err-begin-clause-event
 returns-in-Err-begin-clause-event g c = λ run h.
-    begun_stops g.B.Body.next run c.args.bodies.now.items c.args.execution.now c.begin.new.self c.args.path.now c.begin.new.path c.args.op c.args.states.now c.requires c.begin.ensures.same.0
+    begun_stops g.B.Body.next run c.args.bodies.now.items c.args.execution.now c.begin.new.self c.args.path.now c.begin.new.path c.args.op (beside c.args.known.now c.args.states.now) c.requires c.begin.ensures.same.0
     c.split-request.result.0 c.split-request.ensures.plain h c.in-Err-begin.stop c.in-Err-begin.ensures.event c.add_child.new.bodies.items
 
 pub returns-in-Ok-Turn-clause-event : goal.returns-in-Ok-Turn-clause-event
 returns-in-Ok-Turn-clause-event g c = λ run h.
-    begun_turns g.B.Body.next run c.args.bodies.now.items c.args.execution.now c.begin.new.self c.args.path.now c.begin.new.path c.args.op c.args.states.now c.requires c.begin.ensures.same.0
+    begun_turns g.B.Body.next run c.args.bodies.now.items c.args.execution.now c.begin.new.self c.args.path.now c.begin.new.path c.args.op (beside c.args.known.now c.args.states.now) c.requires c.begin.ensures.same.0
     c.split-request.result.0 c.split-request.ensures.plain h c.in-Ok-Turn.turn (rw c.in-Ok-Turn.field-0-is at c.in-Ok-Turn.ensures.event) c.in-Ok-Turn.ensures.steps
     c.add_child.new.bodies.items (rw c.split-request.ensures.started at c.in-Ok.ensures.more)
 
@@ -26,9 +27,9 @@ pass-requires g c =
 pub returns-in-Ok-AtBranch-clause-event : goal.returns-in-Ok-AtBranch-clause-event
 returns-in-Ok-AtBranch-clause-event g c = λ run h.
     let grown = rw c.split-request.ensures.started at c.in-Ok.ensures.more in
-    let at = begun_branches g.B.Body.next run c.args.bodies.now.items c.args.execution.now c.begin.new.self c.args.path.now c.begin.new.path c.args.op c.args.states.now c.requires c.begin.ensures.same.0
+    let at = begun_branches g.B.Body.next run c.args.bodies.now.items c.args.execution.now c.begin.new.self c.args.path.now c.begin.new.path c.args.op (beside c.args.known.now c.args.states.now) c.requires c.begin.ensures.same.0
     c.split-request.result.0 c.split-request.ensures.plain h (rw c.in-Ok-AtBranch.field-0-is at c.in-Ok-AtBranch.ensures.event) c.in-Ok-AtBranch.ensures.steps c.add_child.new.bodies.items grown in
-    passes_so g.B.Body.next run c.add_child.new.bodies.items c.begin.new.self c.pass.new.execution c.begin.new.path c.pass.new.path c.args.states.now c.pass.new.states
+    passes_so g.B.Body.next run c.add_child.new.bodies.items c.begin.new.self c.pass.new.execution c.begin.new.path c.pass.new.path (beside c.args.known.now c.args.states.now) (beside c.args.known.now c.pass.new.states)
     (over_then c.args.execution.now c.begin.new.self c.split-request.result.0 c.args.path.now c.begin.new.path begun.AtBranch c.requires (rw c.in-Ok-AtBranch.field-0-is at c.in-Ok-AtBranch.ensures.event))
     c.pass.ensures.same.0 at c.pass.result (rw c.as_slice.ensures.value at c.pass.ensures.event) c.pass.ensures.steps
 

@@ -29,14 +29,14 @@ turns-preserved g c =
       callable = c.make_turn.ensures.again;
       limits = c.make_turn.ensures.limits;
       within = (let l = c.in_ok-turn.ensures.within in let f = c.within-sharing.ensures.fits in let w = z.within in omega (arith, l, f, w));
-      finding = finding_cut called takes is_new joins b f0 before old c.make_turn.new.closure c.make_turn.new.recorder.recording c.make_turn.new.parts c.cut_up.new.parts c.make_turn.new.visitors _ on c.in_ok-cut_up.ensures;
+      finding = finding_cut called takes is_new joins b f0 before old c.make_turn.new.closure c.make_turn.new.recorder.recording c.make_turn.new.parts c.cut_up.new.parts c.make_turn.new.visitors _ on c.in_ok-cut_up.ensures.cuts;
     }
 
 pub returns-then-is_over : goal.returns-then-is_over
 returns-then-is_over g c =
     let z = c.turns.invariant in
     finding_complete (CalledAtMut g.F.FnMut) g.V.Visitor.takes g.G.Visitors.is_new g.G.Visitors.joins c.args.builder.now c.args.closure.now c.args.parts.now c.args.visitors.now c.turns.closure c.turns.recorder.recording c.turns.parts
-    c.turns.visitors c.turns.runs z.finding (g.C.Clock.answered c.turns.clock) z.within (c.is_over.ensures c.if-is_over.true)
+    c.turns.visitors c.turns.runs z.finding (g.C.Clock.answered c.turns.clock) z.within (c.is_over.ensures.all c.if-is_over.true)
 
 pub returns-in-Some-reached : goal.returns-in-Some-reached
 returns-in-Some-reached g c =

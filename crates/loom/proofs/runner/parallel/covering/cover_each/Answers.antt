@@ -1,0 +1,18 @@
+use Rattle.std.proofs.Common.{max, arith, rules}
+use Rattle.loom.proofs.RunnerLemmas.Covering.{covered_each, most_each}
+use Rattle.loom.proofs.RunnerLemmas.Workers.{if_ok_both}
+use Rattle.loom.proofs.runner.parallel.covering.cover_each.Goals as goal
+
+pub returns-clause-covered : goal.returns-clause-covered
+returns-clause-covered g c =
+    if_ok_both c.map_vec.result
+    (λ v l e.
+    covered_each g.V.Visitor.takes c.args.builder.now g.B.Body.next c.args.body.now c.args.known.now c.args.jobs.items v.items (let a = v.ok.0 in let b = c.args.jobs.ok.0 in omega (arith, l, a, b))
+    (λ i d less. let k = (e i d less).1 in (k.job, k.job_is, let said = k.call.met in search rules))) c.map_vec.ensures.len c.map_vec.ensures.each
+
+pub returns-clause-within : goal.returns-clause-within
+returns-clause-within g c =
+    if_ok_both c.map_vec.result (λ v l e. most_each (max 1 c.args.slice.runs) v.items (λ i d less. let a = v.ok.0 in let b = c.args.jobs.ok.0 in let k = (e i d (omega (arith, less, l, a, b))).1 in let said = k.call.met in search rules)) c.map_vec.ensures.len c.map_vec.ensures.each
+
+pub returns-clause-len : goal.returns-clause-len
+returns-clause-len g c = if_ok_both c.map_vec.result (λ v l e. let a = v.ok.0 in let b = c.args.jobs.ok.0 in omega (arith, l, a, b)) c.map_vec.ensures.len c.map_vec.ensures.each
