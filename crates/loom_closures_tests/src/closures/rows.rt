@@ -112,6 +112,9 @@ const NO_THREAD: &str =
 const NO_SPLIT: &str =
     "usage: loom_rows NAME [FILE]\nerror: only the program shares a check out\n\nFor the options try '--help', and for the names '--list'.\n";
 
+const ONE_COVERS: &str =
+    "usage: loom_rows NAME [FILE]\nerror: one worker covers a row of closures\n\nFor the options try '--help', and for the names '--list'.\n";
+
 /// What words with options ask for, what is printed of it on standard output and on standard error, and the status. It is what is printed
 /// of any other row.
 struct Said {
@@ -121,7 +124,7 @@ struct Said {
     status: u8,
 }
 
-static SAID: [Said; 19] = [
+static SAID: [Said; 20] = [
     Said {
         words: &["--explain", "relaxed_ring_closures"],
         out: texts::relaxed_ring_closures::TEXT,
@@ -207,6 +210,12 @@ static SAID: [Said; 19] = [
         status: 1,
     },
     Said {
+        words: &["--cover", "--jobs", "2", "lock_beside_closures"],
+        out: "",
+        err: ONE_COVERS,
+        status: 2,
+    },
+    Said {
         words: &["--json", "lock_beside_closures"],
         out: "{\"result\":\"complete\",\"row\":\"lock_beside_closures\",\"runs\":3}\n",
         err: "",
@@ -261,7 +270,8 @@ fn is_said<R: Host + Clock + Sync>(rt: &R, said: &Said) -> io::Result<bool> {
     )
 }
 
-/// A row of closures takes the options that any other row takes. By `--cover` it prints what the body of the same name does.
+/// A row of closures takes the options that any other row takes, but `--cover` beside `--jobs`. By `--cover` it prints what the body of the
+/// same name does.
 #[test]
 fn rows_take_all_options(rt: HostRuntime) -> Result<(), Fail> {
     for said in &SAID {

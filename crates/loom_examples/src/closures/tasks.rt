@@ -8,6 +8,7 @@ use crate::rows::json::{of_covered, of_replay, of_report, print_answer};
 use crate::rows::line::{self, ShownReport};
 use crate::rows::options::RowAsked;
 use crate::rows::parted::Parted;
+use crate::rows::shares::ONE_COVERS;
 use crate::rows::tasks::{ShownReplay, ShownRisen, Task};
 use crate::rows::walks::{SHORTENING_RUNS, failing_in, print_shortened, print_walked};
 use crate::rows::words::{refuse, refuse_choices};
@@ -121,6 +122,9 @@ pub fn run_asked<R: Host + Clock + Sync, L: Log + Clone + Send + 'static, O: Wri
     builder.max_different = Some(MOST_DIFFERENT);
     if let Some(walk) = asked.walk {
         return walk_through(rt, log, row, &builder, walk, asked, out, err);
+    }
+    if asked.covers.is_some() && asked.jobs.is_some() {
+        return refuse(err, ONE_COVERS);
     }
     if let Some(most_states) = asked.covers {
         return cover_through(rt, row, &builder, most_states, asked, out, err);

@@ -168,7 +168,8 @@ pub(crate) fn covered_by<R: AllocGlobal + Clock + Files, B: Body<Data = u64> + S
     )
 }
 
-fn print_covered<W: Write>(out: &mut W, covered: &Covered) -> io::Result<u8>
+/// Prints the line, and answers the exit status.
+pub(crate) fn print_covered<W: Write>(out: &mut W, covered: &Covered) -> io::Result<u8>
     ensures { IfOk result (λ status. PrintedCovered covered.now (W.contents out.old) (W.contents out.new) status) }
 {
     let shown = ShownCovered(covered);
@@ -177,7 +178,7 @@ fn print_covered<W: Write>(out: &mut W, covered: &Covered) -> io::Result<u8>
 }
 
 /// Where a run failed and failures are told, it is shortened, explained and drawn as is asked for.
-fn tell_covered<R: AllocGlobal + Files, B: Body<Data = u64>, O: Write>(
+pub(crate) fn tell_covered<R: AllocGlobal + Files, B: Body<Data = u64>, O: Write>(
     rt: &R,
     builder: &Builder,
     body: &B,

@@ -1,5 +1,8 @@
-//! What the program does with a row by several workers: it checks it, and keeps the list of parts in the checkpoint file.
+//! What the program does with a row by several workers: it checks it, or covers it, and keeps the list of parts in the checkpoint file.
+pub(crate) mod covering;
+
 use crate::measured::row_or_body;
+use crate::rows::jobs::covering::cover;
 use crate::rows::options::RowAsked;
 use crate::rows::parted::Parted;
 use crate::rows::settings::Builds;
@@ -25,8 +28,8 @@ const SLICE_MILLIS: u64 = 200;
 // The list of parts is saved so often at most.
 const SAVE_MILLIS: u64 = 1000;
 
-/// Checks the row by so many workers, prints the line of the report, with the explanation of a failure below it if that is asked for,
-/// and answers the exit status. Zero workers are as many as the host has processors.
+/// Checks the row by so many workers, or covers it, prints the line of the report, with the explanation of a failure below it if that is
+/// asked for, and answers the exit status. Zero workers are as many as the host has processors.
 pub fn check_row<R: Host + HostTime + Sync, O: Write, E: Write>(
     rt: &R,
     asked: RowAsked,
@@ -42,7 +45,10 @@ pub fn check_row<R: Host + HostTime + Sync, O: Write, E: Write>(
         .changes
         .change(row.settings.builder_with(rt.alloc(), asked.file)?);
     let parted = Parted::of(rt.alloc(), row.checked)?;
-    check(rt, &builder, &parted, jobs, asked, out, err)
+    match asked.covers {
+        Some(most_states) => cover(rt, &builder, &parted, jobs, most_states, asked, out, err),
+        None => check(rt, &builder, &parted, jobs, asked, out, err),
+    }
 }
 
 /// Checks this by so many workers, by this builder, prints what `check_row` does, and answers the exit status.
@@ -66,7 +72,7 @@ pub(crate) fn check<R: Host + HostTime + Sync, O: Write, E: Write>(
 }
 
 // So many workers, or as many as there are processors.
-fn workers<R: Threads>(rt: &R, jobs: usize) -> usize {
+pub(crate) fn workers<R: Threads>(rt: &R, jobs: usize) -> usize {
     if jobs > 0 {
         return jobs;
     }
@@ -76,13 +82,13 @@ fn workers<R: Threads>(rt: &R, jobs: usize) -> usize {
     }
 }
 
-// So many workers, each with some time for a part.
-fn timed_workers(count: usize) -> Workers {
+// So many workers, each with so many milliseconds for a part.
+pub(crate) fn timed_workers(count: usize, millis: u64) -> Workers {
     Workers {
         count,
         slice: Slice {
             runs: u64::MAX,
-            until: Some(Duration::from_millis(SLICE_MILLIS)),
+            until: Some(Duration::from_millis(millis)),
         },
     }
 }
@@ -121,7 +127,8 @@ fn find<R: Host + HostTime + Sync>(
     let mut saved = 0u64;
     for _ in rt.forever() {
         let stage = stage(builder, runs, clock.elapsed());
-        let found = parted.find(rt, &stage, timed_workers(count), &mut parts, &mut clock)?;
+        let workers = timed_workers(count, SLICE_MILLIS);
+        let found = parted.find(rt, &stage, workers, &mut parts, &mut clock)?;
         let (now, limit) = match ended(found, runs) {
             Ok(report) => return Ok(report),
             Err(stopped) => stopped,
@@ -158,7 +165,7 @@ fn begin<S: CheckpointStore>(
 }
 
 // The check up to the next time that its list may be saved, after so many runs and so much time.
-fn stage(builder: &Builder, runs: u64, time: Duration) -> Builder {
+pub(crate) fn stage(builder: &Builder, runs: u64, time: Duration) -> Builder {
     let left = most_runs(builder).saturating_sub(runs);
     let next = match &builder.checkpoint_file {
         Some(_) => time.checked_add(Duration::from_millis(SAVE_MILLIS)),
@@ -177,7 +184,7 @@ fn stage(builder: &Builder, runs: u64, time: Duration) -> Builder {
 }
 
 // Whether the check goes on no longer after so much time.
-fn is_late(builder: &Builder, time: Duration) -> bool {
+pub(crate) fn is_late(builder: &Builder, time: Duration) -> bool {
     match builder.max_duration {
         Some(longest) => time >= longest,
         None => false,

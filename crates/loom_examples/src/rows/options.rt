@@ -112,8 +112,6 @@ static OPTIONS: [Known; 29] = [
             "replay",
             "rising",
             "walk",
-            "jobs",
-            "split",
             "part",
             "gather",
             "reduce",

@@ -122,20 +122,25 @@ impl Parted {
     ) -> io::Result<u8>
         ensures { IfOk result (λ status. status ≡ 2) }
     {
-        match error {
-            RunnerError::Settings(why) if self.is_body() => refuse_check(err, builder, why),
-            RunnerError::Memory if self.is_body() => {
-                refuse_check(err, builder, CheckError::Memory)
-            }
-            error => refuse_run(err, builder, error),
+        match self {
+            Parted::Script(_) | Parted::Updater(_) => refuse_body(err, builder, error),
+            Parted::Closures(_) => refuse_run(err, builder, error),
         }
     }
+}
 
-    fn is_body(&self) -> bool {
-        match self {
-            Parted::Script(_) | Parted::Updater(_) => true,
-            Parted::Closures(_) => false,
-        }
+/// Prints which error of a body's check came, and why.
+pub(crate) fn refuse_body<E: Write>(
+    err: &mut E,
+    builder: &Builder,
+    error: RunnerError,
+) -> io::Result<u8>
+    ensures { IfOk result (λ status. status ≡ 2) }
+{
+    match error {
+        RunnerError::Settings(why) => refuse_check(err, builder, why),
+        RunnerError::Memory => refuse_check(err, builder, CheckError::Memory),
+        error => refuse_run(err, builder, error),
     }
 }
 

@@ -2,7 +2,9 @@
 //! `row`, with the row's name and its settings as words; `list`, with the list of parts and their numbers; for each part that is open
 //! `K.part`, and once it was worked on `K.done`, or `K.failed` with a run's choices; and `open`, with a line for each open part's number.
 pub(crate) mod folder;
+pub(crate) mod kind;
 pub(crate) mod listed;
+pub(crate) mod shared;
 
 use crate::closures::rows::named;
 use crate::measured::row_or_body;
@@ -11,15 +13,17 @@ use crate::rows::options::{Asked, RowAsked, Share, read};
 use crate::rows::parted::Parted;
 use crate::rows::settings::Builds;
 use crate::rows::shares::folder::Folder;
+use crate::rows::shares::kind::{Kind, part_from, part_text};
 use crate::rows::shares::listed::{Listed, Sorted};
+use crate::rows::shares::shared::{Made, Shared};
 use crate::rows::words::{refuse, refuse_name};
 use crate::rows::{all_rows, print_report};
 use loom::model::builder::Builder;
 use loom::model::error::CheckError;
-use loom::model::parts::{Slice, Worked};
+use loom::model::parts::Slice;
 use loom::model::{Replay, Report};
 use loom::runner::{Host, RunnerError};
-use loom::{Choice, Choices, Failure, HostClock, NoClock, ShownChoices};
+use loom::{Choices, HostClock, NoClock, ShownChoices};
 use loom_engine::rt::parts::Part;
 use std::alloc::{AllocError, Global};
 use std::fs::File;
@@ -28,6 +32,9 @@ use std::rt::{Clock as HostTime, Files};
 use std::time::Duration;
 
 const NO_FOLDER: &str = "error: the folder could not be written";
+
+/// Why a row of closures is neither covered in parts nor by several workers.
+pub(crate) const ONE_COVERS: &str = "error: one worker covers a row of closures";
 
 /// The exit status where parts are open.
 const OPEN: u8 = 3;
@@ -134,6 +141,8 @@ enum Came {
     Worked(u64, bool),
     /// What the check found.
     Found(Report),
+    /// The check has covered each run of the body: so many runs ended, and so many were given up.
+    Covered(u64, u64),
 }
 
 // The text of the file `row`: the row's name and each setting, a word in each line.
@@ -156,6 +165,10 @@ fn row_text(alloc: Global, asked: &RowAsked) -> Result<String, AllocError> {
     }
     if changes.expect_explicit_explore == Some(true) {
         text.push_str("\n--explicit-explore")?;
+    }
+    if let Some(most_states) = asked.covers {
+        text.push_str("\n--cover")?;
+        add_number(alloc, &mut text, "states", Some(most_states))?;
     }
     Ok(text)
 }
@@ -214,8 +227,12 @@ fn with_row<R: Host + HostTime + Files<File = File>, O: Write, E: Write>(
     err: &mut E,
 ) -> io::Result<u8> {
     if let Some(row) = named(asked.name) {
+        if asked.covers.is_some() {
+            return refuse(err, ONE_COVERS);
+        }
         let builder = asked.changes.change(row.builder());
-        return do_step(rt, folder, step, &builder, &Parted::Closures(row), out, err);
+        let shared = Shared::Plain(Parted::Closures(row));
+        return do_step(rt, folder, step, &builder, shared, out, err);
     }
     let Some(row) = row_or_body(rt.alloc(), asked.name)? else {
         let rows = all_rows(rt.alloc())?;
@@ -224,8 +241,8 @@ fn with_row<R: Host + HostTime + Files<File = File>, O: Write, E: Write>(
     let builder = asked
         .changes
         .change(row.settings.builder_with(rt.alloc(), None)?);
-    let parted = Parted::of(rt.alloc(), row.checked)?;
-    do_step(rt, folder, step, &builder, &parted, out, err)
+    let shared = Shared::of(rt.alloc(), row.checked, asked.covers)?;
+    do_step(rt, folder, step, &builder, shared, out, err)
 }
 
 // Does the step, prints what came of it, and answers the exit status.
@@ -234,18 +251,19 @@ fn do_step<R: Host + HostTime + Files<File = File>, O: Write, E: Write>(
     folder: &Folder<R>,
     step: Step,
     builder: &Builder,
-    parted: &Parted,
+    mut shared: Shared,
     out: &mut O,
     err: &mut E,
 ) -> io::Result<u8> {
+    let kind = shared.kind();
     let came = match step {
-        Step::Split(wanted) => split(rt, folder, builder, parted, wanted),
-        Step::Part(number) => work_on(rt, folder, builder, parted, number),
-        Step::Gather => gather(rt, folder, builder, parted),
+        Step::Split(wanted) => split(rt, folder, kind, builder, &mut shared, wanted),
+        Step::Part(number) => work_on(rt, folder, kind, builder, &mut shared, number),
+        Step::Gather => gather(rt, folder, kind, builder, &shared),
     };
     match came {
         Ok(came) => print_came(&came, out),
-        Err(error) => parted.refuse(err, builder, error),
+        Err(error) => shared.refuse(err, builder, error),
     }
 }
 
@@ -266,6 +284,10 @@ fn print_came<O: Write>(came: &Came, out: &mut O) -> io::Result<u8> {
             Ok(0)
         }
         Came::Found(report) => print_report(out, report),
+        Came::Covered(runs, met) => {
+            writeln!(out, "complete {runs} met {met}")?;
+            Ok(0)
+        }
     }
 }
 
@@ -273,15 +295,16 @@ fn print_came<O: Write>(came: &Came, out: &mut O) -> io::Result<u8> {
 fn split<R: Host>(
     rt: &R,
     folder: &Folder<R>,
+    kind: Kind,
     builder: &Builder,
-    parted: &Parted,
+    shared: &mut Shared,
     wanted: usize,
 ) -> Result<Came, RunnerError> {
     let alloc = rt.alloc();
-    let mut listed = Listed::new(alloc, wanted, builder.parts(alloc)?)?;
-    match make_runs(rt, builder, parted, &mut listed)? {
+    let mut listed = Listed::new(alloc, wanted, kind, kind.parts(alloc, builder)?)?;
+    match make_runs(rt, builder, shared, &mut listed)? {
         Some(report) => Ok(Came::Found(report)),
-        None => Ok(write_out(alloc, folder, &listed)?),
+        None => Ok(write_out(alloc, folder, kind, &listed)?),
     }
 }
 
@@ -289,7 +312,7 @@ fn split<R: Host>(
 fn make_runs<R: Host>(
     rt: &R,
     builder: &Builder,
-    parted: &Parted,
+    shared: &mut Shared,
     listed: &mut Listed,
 ) -> Result<Option<Report>, RunnerError> {
     for _ in 0..MOST_RUNS {
@@ -299,53 +322,41 @@ fn make_runs<R: Host>(
         let Some(mut part) = listed.parts.take(rt.alloc(), 0)? else {
             continue;
         };
-        match make_run(rt, builder, parted, &mut part)? {
-            Some((failure, choices)) => {
-                let runs = listed.parts.runs;
+        match shared.work_on(rt, builder, &mut part, ONE_RUN, &mut NoClock)? {
+            Made::Made { runs: _, met } => {
+                listed.give_up(met);
+                listed.take_one_back(rt.alloc(), part)?;
+            }
+            Made::Failed {
+                runs: _,
+                failure,
+                choices,
+            } => {
                 return Ok(Some(Report::Failed {
-                    runs,
+                    runs: listed.parts.runs,
                     failure,
                     choices,
                 }));
-            }
-            None => {
-                listed.take_one_back(rt.alloc(), part)?;
             }
         }
     }
     Ok(None)
 }
 
-// Makes a run of the part. Answers how it fails, and its choices, if it does.
-fn make_run<R: Host>(
-    rt: &R,
-    builder: &Builder,
-    parted: &Parted,
-    part: &mut Part,
-) -> Result<Option<(Failure, Vec<Choice>)>, RunnerError> {
-    match parted.work_on(rt, builder, part, ONE_RUN, &mut NoClock)? {
-        Worked::Made { .. } => Ok(None),
-        Worked::Failed {
-            runs: _,
-            failure,
-            choices,
-        } => Ok(Some((failure, choices))),
-    }
-}
-
 // Works on the part of this number until nothing is left of it or the time is over, and writes what came of it.
 fn work_on<R: Host + HostTime>(
     rt: &R,
     folder: &Folder<R>,
+    kind: Kind,
     builder: &Builder,
-    parted: &Parted,
+    shared: &mut Shared,
     number: &str,
 ) -> Result<Came, RunnerError> {
     let alloc = rt.alloc();
-    if let Some(part) = part_in(alloc, folder, builder, number, "done")? {
-        return Ok(Came::Worked(part.runs, part.is_done));
+    if let Some((part, met)) = part_in(alloc, folder, kind, builder, number, "done")? {
+        return Ok(Came::Worked(part.runs.saturating_add(met), part.is_done));
     }
-    let Some(mut part) = part_in(alloc, folder, builder, number, "part")? else {
+    let Some((mut part, _)) = part_in(alloc, folder, kind, builder, number, "part")? else {
         return Err(RunnerError::Settings(CheckError::Store));
     };
     let slice = Slice {
@@ -353,14 +364,14 @@ fn work_on<R: Host + HostTime>(
         until: builder.max_duration,
     };
     let mut clock = HostClock::start(rt);
-    match parted.work_on(rt, builder, &mut part, slice, &mut clock)? {
-        Worked::Made { runs } => {
+    match shared.work_on(rt, builder, &mut part, slice, &mut clock)? {
+        Made::Made { runs, met } => {
             let name = format!(in alloc; "{number}.done")?;
-            let text = part.to_text(alloc)?;
+            let text = part_text(alloc, kind, &part, met)?;
             folder.write(name.as_str(), text.as_str())?;
-            Ok(Came::Worked(runs, part.is_done))
+            Ok(Came::Worked(runs.saturating_add(met), part.is_done))
         }
-        Worked::Failed {
+        Made::Failed {
             runs,
             failure,
             choices,
@@ -382,8 +393,9 @@ fn work_on<R: Host + HostTime>(
 fn gather<R: Host>(
     rt: &R,
     folder: &Folder<R>,
+    kind: Kind,
     builder: &Builder,
-    parted: &Parted,
+    shared: &Shared,
 ) -> Result<Came, RunnerError> {
     let alloc = rt.alloc();
     let Some(text) = folder.read("list")? else {
@@ -392,11 +404,11 @@ fn gather<R: Host>(
     let Ok(text) = str::from_utf8(text.as_slice()) else {
         return Err(RunnerError::Settings(CheckError::WrongShape));
     };
-    let mut listed = Listed::from_text(alloc, builder, text)?;
+    let mut listed = Listed::from_text(alloc, kind, builder, text)?;
     let mut sorted = Sorted::new(alloc);
-    match sort(rt, folder, builder, parted, &listed, &mut sorted)? {
+    match sort(rt, folder, kind, builder, shared, &listed, &mut sorted)? {
         Some(report) => Ok(Came::Found(report)),
-        None => Ok(take_back(alloc, folder, &mut listed, sorted)?),
+        None => Ok(take_back(alloc, folder, kind, &mut listed, sorted)?),
     }
 }
 
@@ -404,20 +416,21 @@ fn gather<R: Host>(
 fn sort<R: Host>(
     rt: &R,
     folder: &Folder<R>,
+    kind: Kind,
     builder: &Builder,
-    parted: &Parted,
+    shared: &Shared,
     listed: &Listed,
     sorted: &mut Sorted,
 ) -> Result<Option<Report>, RunnerError> {
     let alloc = rt.alloc();
     for place in 0..listed.numbers.len().min(listed.parts.list.len()) {
         let number = listed.numbers[place];
-        let failed = failure_of(rt, folder, builder, parted, number, listed.parts.runs)?;
+        let failed = failure_of(rt, folder, builder, shared, number, listed.parts.runs)?;
         if failed.is_some() {
             return Ok(failed);
         }
         let word = format!(in alloc; "{number}")?;
-        let part = part_in(alloc, folder, builder, word.as_str(), "done")?;
+        let part = part_in(alloc, folder, kind, builder, word.as_str(), "done")?;
         let base = listed.parts.list[place].base.as_slice();
         sorted.add(alloc, number, part, base)?;
     }
@@ -428,12 +441,19 @@ fn sort<R: Host>(
 fn take_back<R: AllocGlobal + Files>(
     alloc: Global,
     folder: &Folder<R>,
+    kind: Kind,
     listed: &mut Listed,
     sorted: Sorted,
 ) -> Result<Came, CheckError> {
-    let Sorted { done, back, out } = sorted;
+    let Sorted {
+        done,
+        met,
+        back,
+        out,
+    } = sorted;
+    listed.give_up(met);
     listed.take_back(alloc, done, out.as_slice())?;
-    let came = write_out(alloc, folder, listed)?;
+    let came = write_out(alloc, folder, kind, listed)?;
     remove_each(alloc, folder, back.as_slice())?;
     Ok(came)
 }
@@ -443,7 +463,7 @@ fn failure_of<R: Host>(
     rt: &R,
     folder: &Folder<R>,
     builder: &Builder,
-    parted: &Parted,
+    shared: &Shared,
     number: u64,
     runs: u64,
 ) -> Result<Option<Report>, RunnerError> {
@@ -458,7 +478,7 @@ fn failure_of<R: Host>(
     let Ok(choices) = Choices::parse(alloc, text) else {
         return Err(RunnerError::Settings(CheckError::WrongShape));
     };
-    match parted.replay(rt, builder, choices.as_slice())? {
+    match shared.replay(rt, builder, choices.as_slice())? {
         Replay::Failed { failure, choices } => Ok(Some(Report::Failed {
             runs,
             failure,
@@ -468,17 +488,18 @@ fn failure_of<R: Host>(
     }
 }
 
-// The part of this number in the file that ends so, if there is one.
+// The part of this number in the file that ends so, if there is one, and how many of its runs were given up.
 fn part_in<R: AllocGlobal + Files>(
     alloc: Global,
     folder: &Folder<R>,
+    kind: Kind,
     builder: &Builder,
     number: &str,
     ending: &str,
-) -> Result<Option<Part>, CheckError> {
+) -> Result<Option<(Part, u64)>, CheckError> {
     let name = format!(in alloc; "{number}.{ending}")?;
     match folder.read(name.as_str())? {
-        Some(text) => Ok(Some(builder.part_from(alloc, text.as_slice())?)),
+        Some(text) => Ok(Some(part_from(alloc, kind, builder, text.as_slice())?)),
         None => Ok(None),
     }
 }
@@ -487,6 +508,7 @@ fn part_in<R: AllocGlobal + Files>(
 fn write_out<R: AllocGlobal + Files>(
     alloc: Global,
     folder: &Folder<R>,
+    kind: Kind,
     listed: &Listed,
 ) -> Result<Came, CheckError> {
     if listed.parts.is_over() {
@@ -494,13 +516,16 @@ fn write_out<R: AllocGlobal + Files>(
         let text = listed.to_text(alloc)?;
         folder.write("list", text.as_str())?;
         folder.write("open", "")?;
-        return Ok(Came::Found(Report::Complete { runs }));
+        return Ok(match listed.met {
+            Some(met) => Came::Covered(runs, met),
+            None => Came::Found(Report::Complete { runs }),
+        });
     }
     let mut open = String::new(alloc);
     for place in 0..listed.numbers.len().min(listed.parts.list.len()) {
         let number = listed.numbers[place];
         let name = format!(in alloc; "{number}.part")?;
-        let text = listed.parts.list[place].to_text(alloc)?;
+        let text = part_text(alloc, kind, &listed.parts.list[place], 0)?;
         folder.write(name.as_str(), text.as_str())?;
         let line = format!(in alloc; "{number}\n")?;
         open.push_str(line.as_str())?;

@@ -1,5 +1,7 @@
 //! The list of a check's parts, as a file has it: a number for each part, which no other part of the check has ever had.
+use crate::rows::shares::kind::Kind;
 use loom::model::builder::Builder;
+use loom::model::cover::part_texts::parts_to_text;
 use loom::model::error::CheckError;
 use loom_engine::rt::parts::{Part, Parts};
 use loom_objects::choice::Choice;
@@ -13,6 +15,8 @@ pub(crate) struct Listed {
     /// The number of the next new part.
     pub(crate) next: u64,
     pub(crate) parts: Parts,
+    /// How many runs were given up, of a covering check.
+    pub(crate) met: Option<u64>,
     /// The number of each part, in the order of the list.
     pub(crate) numbers: Vec<u64>,
 }
@@ -29,6 +33,8 @@ pub(crate) struct Known {
 pub(crate) struct Sorted {
     /// The parts that came back.
     pub(crate) done: Vec<Part>,
+    /// How many of their runs were given up.
+    pub(crate) met: u64,
     /// Their numbers.
     pub(crate) back: Vec<u64>,
     /// The other ones.
@@ -40,21 +46,23 @@ impl Sorted {
     pub(crate) fn new(alloc: Global) -> Sorted {
         Sorted {
             done: Vec::new(alloc),
+            met: 0,
             back: Vec::new(alloc),
             out: Vec::new(alloc),
         }
     }
 
-    /// One more, which has this number and this base: it came back so, or is still out.
+    /// One more, which has this number and this base: it came back so, with so many runs given up, or is still out.
     pub(crate) fn add(
         &mut self,
         alloc: Global,
         number: u64,
-        part: Option<Part>,
+        part: Option<(Part, u64)>,
         base: &[Choice],
     ) -> Result<(), AllocError> {
         match part {
-            Some(part) => {
+            Some((part, met)) => {
+                self.met = self.met.saturating_add(met);
                 self.done.push(part)?;
                 self.back.push(number)?;
             }
@@ -73,11 +81,17 @@ const MOST_CUTS: usize = 100_000;
 
 impl Listed {
     /// These parts, each as a new one.
-    pub(crate) fn new(alloc: Global, wanted: usize, parts: Parts) -> Result<Listed, AllocError> {
+    pub(crate) fn new(
+        alloc: Global,
+        wanted: usize,
+        kind: Kind,
+        parts: Parts,
+    ) -> Result<Listed, AllocError> {
         let mut listed = Listed {
             wanted,
             next: 1,
             parts,
+            met: kind.none_met(),
             numbers: Vec::new(alloc),
         };
         listed.number_anew(alloc, &[])?;
@@ -105,6 +119,11 @@ impl Listed {
             }
         }
         self.number_anew(alloc, out)
+    }
+
+    /// So many more runs were given up, of a covering check.
+    pub(crate) fn give_up(&mut self, more: u64) {
+        self.met = self.met.map(|met| met.saturating_add(more));
     }
 
     /// Takes this part back, where none is out.
@@ -140,7 +159,10 @@ impl Listed {
             text.push_str(word.as_str())?;
         }
         text.push_str("\n")?;
-        let parts = self.parts.to_text(alloc)?;
+        let parts = match self.met {
+            Some(met) => parts_to_text(alloc, &self.parts, met)?,
+            None => self.parts.to_text(alloc)?,
+        };
         text.push_str(parts.as_str())?;
         Ok(text)
     }
@@ -148,6 +170,7 @@ impl Listed {
     /// What is read back from such a text, for this check. `WrongShape` where it is none.
     pub(crate) fn from_text(
         alloc: Global,
+        kind: Kind,
         builder: &Builder,
         text: &str,
     ) -> Result<Listed, CheckError> {
@@ -163,7 +186,7 @@ impl Listed {
         let (Ok(wanted), Ok(next)) = (wanted.parse::<usize>(), next.parse::<u64>()) else {
             return Err(CheckError::WrongShape);
         };
-        let parts = builder.parts_from(alloc, list.as_bytes())?;
+        let (parts, met) = kind.parts_from(alloc, builder, list.as_bytes())?;
         let Some(numbers) = numbers_in(alloc, words)? else {
             return Err(CheckError::WrongShape);
         };
@@ -174,6 +197,7 @@ impl Listed {
             wanted,
             next,
             parts,
+            met,
             numbers,
         })
     }

@@ -100,6 +100,8 @@ fn workers_go_on_with_a_file(rt: HostRuntime) {
     holds(&rt, fs::remove_file(&rt, FILE).is_ok(), "a list is kept");
     calls_print(&rt, &PLAIN);
     holds(&rt, fs::remove_file(&rt, FILE).is_ok(), "a path is kept");
+    let page = answer(&rt, &["--cover", "--jobs", "2", "store_buffering"]);
+    holds(&rt, is_covered(&page), "workers cover");
 }
 
 const FOLDER: &str = "loom_tests_parts";
@@ -209,6 +211,20 @@ fn finds_as_a_plain_check(rt: &impl Process, split: &Split) {
     prints(rt, split.plain, split.finds);
 }
 
+// How many runs are given up isn't the same for each way to go about it.
+fn is_covered(page: &Page) -> bool {
+    let text = page.text.as_str();
+    text.starts_with("complete ") && text.ends_with("\nstatus 0")
+}
+
+fn covers_by_parts(rt: &impl Process) {
+    let words = ["--split", FOLDER, "4", "--cover", "store_buffering"];
+    prints(rt, &words, "4 parts open\nstatus 3");
+    holds(rt, is_covered(&gather_all(rt)), "the parts cover");
+    let is_removed = fs::remove_dir_all(rt, FOLDER).is_ok();
+    holds(rt, is_removed, "the folder of a covering check is there");
+}
+
 // How many parts have a run that fails.
 fn failing_parts(rt: &impl Process, numbers: &str) -> u64 {
     let mut failing = 0u64;
@@ -239,6 +255,7 @@ fn parts_that_are_files_find_what_a_plain_check_does(rt: HostRuntime) {
         let is_removed = fs::remove_dir_all(&rt, FOLDER).is_ok();
         holds(&rt, is_removed, "the folder is there");
     }
+    covers_by_parts(&rt);
     fails_as_a_plain_check(&rt);
     let is_removed = fs::remove_dir_all(&rt, FOLDER).is_ok();
     holds(&rt, is_removed, "the folder of a failure is there");
