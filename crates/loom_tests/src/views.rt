@@ -10,6 +10,7 @@ use loom_views::rt::atomic::reader::Reader::{self, Load as Any, Update};
 use loom_views::rt::num::change::Change;
 use loom_views::rt::num::{Numbers, Numeric};
 use loom_views::rt::views::Views;
+use loom_views::rt::views::ranked::RankedViews;
 use loom_views::rt::vv::VersionVec;
 use loom_views::same::Same;
 use std::process::Abort;
@@ -437,8 +438,8 @@ fn spin(views: &mut Views) {
 }
 
 // These views by ranks.
-fn by_ranks<R: AllocGlobal + Abort>(rt: &R, views: &Views) -> Views {
-    let spare = Views::new(rt.alloc());
+fn by_ranks<R: AllocGlobal + Abort>(rt: &R, views: &Views) -> RankedViews {
+    let spare = RankedViews::new(rt.alloc());
     views
         .ranked(rt.alloc(), spare)
         .expect(rt, "no memory for views")
@@ -453,7 +454,9 @@ fn spinning_comes_back(rt: HostRuntime) {
     spin(&mut views);
     let again = by_ranks(&rt, &views);
     holds(&rt, once.is_same(&again), "by ranks they are the same");
-    holds(&rt, !once.is_same(&views), "by counts they aren't");
+    let _ = views.store(0, 0, 1, Ordering::Release);
+    let stored = by_ranks(&rt, &views);
+    holds(&rt, !once.is_same(&stored), "after a store they aren't");
 }
 
 #[test]

@@ -2,3 +2,4 @@ pub mod Atomic
 pub mod Ranks
 pub mod Sight
 pub mod Views
+pub mod Packed

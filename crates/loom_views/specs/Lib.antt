@@ -17,3 +17,4 @@ pub mod ThreadViews
 pub mod VersionOrder
 pub mod Versions
 pub mod Views
+pub mod Packed

@@ -26,7 +26,7 @@ use loom_objects::rt::object::Object;
 use loom_objects::rt::scene::Scene;
 use loom_objects::rt::schedule::{Yields, no_yields};
 use loom_objects::rt::thread::Thread;
-use loom_views::rt::views::Views;
+use loom_views::rt::views::ranked::RankedViews;
 use loom_views::rt::vv::mixed;
 use loom_views::same::{Same, are_same};
 use loom_views::sequence::Sequence;
@@ -38,7 +38,7 @@ use std::marker::Model;
 pub struct State<D, B> {
     threads: Sequence<Thread<D>>,
     objects: Sequence<Object<D>>,
-    views: Views,
+    views: RankedViews,
     lazies: Sequence<Lazy<D>>,
     max_threads: usize,
     yields: Yields,
@@ -53,7 +53,7 @@ impl<D: Data + Same, B: Body + Same> State<D, B> {
         alloc: Global,
         execution: &Execution<D>,
         bodies: &[B],
-        views: Views,
+        views: RankedViews,
         never_switches: bool,
     ) -> Result<State<D, B>, AllocError>
         ensures { IfOk result (λ state. state ≡ state_in never_switches execution.now.run bodies.now views) }
@@ -101,7 +101,7 @@ impl<D: Data + Same, B: Body + Same> State<D, B> {
         &self,
         execution: &Execution<D>,
         bodies: &[B],
-        views: &Views,
+        views: &RankedViews,
         never_switches: bool,
     ) -> bool
         ensures { IsTrue result → self.now ≡ state_in never_switches execution.now.run bodies.now views.now }
@@ -167,7 +167,7 @@ pub struct States<D, B> {
     // the digest of each one's views
     digests: Vec<u64>,
     // views that were written for a look-up, in whose room the next one writes its own
-    spare: Option<Views>,
+    spare: Option<RankedViews>,
     most: usize,
     never_switches: bool,
     alloc: Global,
@@ -272,7 +272,7 @@ impl<D: Data + Same, B: Body + Same> States<D, B> {
         known: &States<D, B>,
         execution: &Execution<D>,
         bodies: &[B],
-        views: &Views,
+        views: &RankedViews,
         path: &Path,
     ) -> Result<Option<usize>, AllocError>
         ensures { IfOk result (λ found. FindsOrNotes (state_in self.old.never execution.now.run bodies.now views.now) (chosen path.now) (beside known.now self.old) found (beside known.now self.new)) }
@@ -294,7 +294,7 @@ impl<D: Data + Same, B: Body + Same> States<D, B> {
         known: &States<D, B>,
         execution: &Execution<D>,
         bodies: &[B],
-        views: &Views,
+        views: &RankedViews,
         digest: u64,
     ) -> Option<usize>
         ensures { IfSome result (λ number. slice_get (known.now.states ++ self.now.states) number ≡ Some (state_in self.now.never execution.now.run bodies.now views.now)) }
@@ -308,17 +308,17 @@ impl<D: Data + Same, B: Body + Same> States<D, B> {
     }
 
     /// The spare views, or new ones.
-    fn take_spare(&mut self) -> Views
+    fn take_spare(&mut self) -> RankedViews
         ensures { self.new ≡ self.old }
     {
         match self.spare.take() {
             Some(views) => views,
-            None => Views::new(self.alloc),
+            None => RankedViews::new(self.alloc),
         }
     }
 
     /// These views are the spare ones.
-    fn keep_spare(&mut self, views: Views)
+    fn keep_spare(&mut self, views: RankedViews)
         ensures { self.new ≡ self.old }
     {
         self.spare = Some(views);
@@ -330,7 +330,7 @@ impl<D: Data + Same, B: Body + Same> States<D, B> {
         &self,
         execution: &Execution<D>,
         bodies: &[B],
-        views: &Views,
+        views: &RankedViews,
         digest: u64,
         never_switches: bool,
     ) -> Option<usize>
@@ -360,7 +360,7 @@ impl<D: Data + Same, B: Body + Same> States<D, B> {
         &mut self,
         execution: &Execution<D>,
         bodies: &[B],
-        views: &Views,
+        views: &RankedViews,
         digest: u64,
         path: &Path,
     ) -> Result<(), AllocError>

@@ -6,10 +6,12 @@
 pub mod reader;
 pub mod touches;
 
-ghost use Rattle.std.specs.Prelude.{◌≡◌, ℕ, ◌+◌, ◌<◌, ◌≤◌, ◌==◌, ◌&&◌, not, min, IsTrue, None, slice_index_or, false, MatchResult, OnErr, Ok, Err, length, IfSome};
+ghost use Rattle.std.specs.Prelude.{◌≡◌, ℕ, ◌+◌, ◌-◌, ◌<◌, ◌≤◌, ◌==◌, ◌&&◌, ◌++◌, not, min, IfOk, IsTrue, List, take, replicate, None, slice_index_or, false, MatchResult, OnErr, Ok, Err, length, IfSome};
 ghost use Rattle.std.specs.List.{list_any};
 ghost use Rattle.loom_views.specs.InOrder.{PairsTouches, PairsStores, PairsStates, Ranked};
 ghost use Rattle.loom_views.specs.Limits.{highest_version, most_stores};
+ghost use Rattle.loom_views.specs.Packed.{empty_store, whole};
+ghost use Rattle.loom_views.specs.declared.rt.atomic.Store.{Store};
 ghost use Rattle.loom_views.specs.Versions.{join, join_all};
 ghost use Rattle.loom_views.specs.Atomic.Untouched.{untouched};
 ghost use Rattle.loom_views.specs.declared.rt.failure.FailureKind.TheVariants.{OrdersEqual, TooManyStores};
@@ -29,7 +31,9 @@ use crate::rt::failure::FailureKind;
 use crate::rt::ranks::{Ranks, Standing};
 use crate::rt::synchronize::{Synchronize, ThreadViews};
 use crate::rt::vv::{VersionVec, mixed};
-use crate::same::{Same, are_same};
+use crate::same::Same;
+use crate::sequence::Sequence;
+use std::alloc::AllocError;
 use std::sync::atomic::Ordering;
 
 /// For each thread, its own version when it first touched a store (loom's `rt/atomic.rs`).
@@ -590,18 +594,6 @@ impl Same for Store {
     }
 }
 
-impl Same for State {
-    fn is_same(&self, other: &State) -> bool {
-        self.count == other.count
-            && self.is_mutating == other.is_mutating
-            && self.loaded_at.is_same(&other.loaded_at)
-            && self.stored_at.is_same(&other.stored_at)
-            && self.unsync_loaded_at.is_same(&other.unsync_loaded_at)
-            && self.unsync_mut_at.is_same(&other.unsync_mut_at)
-            && are_same(self.stores.as_slice(), other.stores.as_slice())
-    }
-}
-
 impl FirstSeen {
     /// Their counts stand too.
     fn stand(&self, standing: &mut Standing) {
@@ -626,8 +618,8 @@ impl Store {
         self.first_seen.stand(standing);
     }
 
-    /// A number that depends on the store alone.
-    fn digest(&self) -> u64 {
+    /// A number that depends on the store alone (own).
+    pub fn digest(&self) -> u64 {
         let views = mixed(self.order.digest(), self.sync.digest());
         mixed(mixed(views, self.first_seen.versions.digest()), self.value)
     }
@@ -694,13 +686,99 @@ impl State {
         })
     }
 
-    /// A number that depends on what is kept alone: on all of it, but for what unsynchronized accesses leave, so that few differ
-    /// that have the same one (own).
-    pub fn digest(&self) -> u64 {
-        let mut digest = mixed(self.loaded_at.digest(), self.stored_at.digest());
-        for store in &self.stores.as_slice()[..self.kept()] {
-            digest = mixed(digest, store.digest());
+    /// How many stores there are up to the last one that isn't empty, or all.
+    fn filled(&self) -> usize
+        ensures few { result ≤ 7 }
+        ensures filled { self.now.stores ≡ take result self.now.stores ++ replicate (7 - result) empty_store }
+    {
+        let kept = self.kept();
+        if are_empty(&self.stores.as_slice()[kept..]) {
+            kept
+        } else {
+            MAX_ATOMIC_HISTORY
         }
+    }
+
+    /// What is kept but for the stores, of which those that aren't empty are put behind these. An error where memory is refused (own).
+    #[inline(always)]
+    pub fn pack(&self, stores: &mut Sequence<Store>) -> Result<Head, AllocError>
+        ensures { IfOk result (λ head. (more : List Store) × (stores.new ≡ stores.old ++ more) × (head.kept ≡ length more) × (whole head more ≡ self.now)) }
+    {
+        let kept = self.filled();
+        for place in 0..kept {
+            stores.push(self.stores[place])?;
+        }
+        Ok(Head {
+            loaded_at: self.loaded_at,
+            stored_at: self.stored_at,
+            unsync_loaded_at: self.unsync_loaded_at,
+            unsync_mut_at: self.unsync_mut_at,
+            is_mutating: self.is_mutating,
+            count: self.count,
+            kept,
+        })
+    }
+}
+
+/// What is kept of an atomic but for its stores, and how many of these there are up to the last one that isn't empty (own).
+#[derive(Clone, Copy)]
+pub struct Head {
+    loaded_at: VersionVec,
+    stored_at: VersionVec,
+    unsync_loaded_at: VersionVec,
+    unsync_mut_at: VersionVec,
+    is_mutating: bool,
+    count: u16,
+    kept: usize,
+}
+
+impl Same for Head {
+    fn is_same(&self, other: &Head) -> bool {
+        self.count == other.count
+            && self.kept == other.kept
+            && self.is_mutating == other.is_mutating
+            && self.loaded_at.is_same(&other.loaded_at)
+            && self.stored_at.is_same(&other.stored_at)
+            && self.unsync_loaded_at.is_same(&other.unsync_loaded_at)
+            && self.unsync_mut_at.is_same(&other.unsync_mut_at)
+    }
+}
+
+impl Head {
+    /// A number that depends on it alone (own).
+    pub fn digest(&self) -> u64 {
+        let digest = mixed(self.loaded_at.digest(), self.stored_at.digest());
         mixed(digest, u64::from(self.count))
     }
+}
+
+impl Store {
+    /// Nothing is stored.
+    fn empty() -> Store
+        ensures { result ≡ empty_store }
+    {
+        Store {
+            value: 0,
+            order: VersionVec::new(),
+            sync: Synchronize::new(),
+            first_seen: FirstSeen::new(),
+            seq_cst: false,
+        }
+    }
+}
+
+/// Whether nothing is stored in any of them.
+#[tactic(auto, using(crate::proofs::Packed::empty_more))]
+fn are_empty(stores: &[Store]) -> bool
+    ensures { IsTrue result → stores.now ≡ replicate (length stores.now) empty_store }
+{
+    let empty = Store::empty();
+    let mut rest = stores;
+    while let Some((first, tail)) = rest.split_first() {
+        if !first.is_same(&empty) {
+            return false;
+        }
+        rest = tail;
+    }
+    true
 }

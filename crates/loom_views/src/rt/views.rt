@@ -4,12 +4,14 @@
 //! nothing, and one that answers something answers `Misuse`. Source: loom's `rt/execution.rs` and `rt/object.rs`, where each
 //! thread and each object keeps its own.
 
+pub mod packed;
 pub mod places;
+pub mod ranked;
 
 ghost use Rattle.std.specs.Prelude.{ℕ, IfSome, ◌≡◌, ◌++◌, ◌∷◌, ◌<◌, ◌≤◌, [], Ok, Err, IfOk, OnErr, OnOk, length, slice_get};
 ghost use Rattle.loom_views.specs.declared.rt.failure.FailureKind.TheVariants.{Misuse};
 ghost use Rattle.loom_views.specs.declared.rt.views.Kept.TheVariants.{Point};
-ghost use Rattle.loom_views.specs.InOrder.{IsInOrder, PairAll, PairsAt, PairsPlaces, PairsThreads, PairsVectors, PairsViews, Ranked};
+ghost use Rattle.loom_views.specs.InOrder.{PairsPlaces, Ranked};
 ghost use Rattle.loom_views.specs.Versions.{zeros};
 ghost use Rattle.loom_views.specs.Views.{Points, ShowsViews, MovesAs, LoadsAs, StoresAs, OffersAs, IsSlotKept, opening, points_after_raise, points_after_acquire, points_after_release, points_after_release_fence, points_after_yield, points_with_point, points_with_stamp, points_after_stamp, points_after_stamp_release, points_after_stamp_acquire, points_after_spawn, points_after_join, points_with_atomic, points_after_load, points_after_store, points_after_update_read, points_after_update_write, points_after_update_fail, points_after_unsync_load, points_after_with_mut, points_after_with_mut_end, points_after_acquire_fence, points_after_meet_global, points_after_fence, points_with_cell, points_after_read, points_after_write, readable_slots_of};
 
@@ -20,9 +22,8 @@ use crate::rt::failure::FailureKind;
 use crate::rt::ranks::{Ranks, Standing};
 use crate::rt::synchronize::{Synchronize, ThreadViews};
 use crate::rt::views::places::Places;
-use crate::rt::vv::{VersionVec, mixed};
+use crate::rt::vv::VersionVec;
 use crate::rt::{MAX_ATOMIC_HISTORY, MAX_THREADS};
-use crate::same::{Same, are_same};
 use crate::sequence::Sequence;
 use std::alloc::{AllocError, Global};
 use std::sync::atomic::Ordering;
@@ -559,17 +560,6 @@ impl Views {
     }
 }
 
-impl Same for Kept {
-    fn is_same(&self, other: &Kept) -> bool {
-        match (self, other) {
-            (Kept::Point(one), Kept::Point(two)) => one.is_same(two),
-            (Kept::Atomic(one), Kept::Atomic(two)) => one.is_same(two),
-            (Kept::Cell(one), Kept::Cell(two)) => one.is_same(two),
-            (Kept::Point(_) | Kept::Atomic(_) | Kept::Cell(_), _) => false,
-        }
-    }
-}
-
 impl Kept {
     /// Its counts stand too.
     fn stand(&self, standing: &mut Standing) {
@@ -592,181 +582,4 @@ impl Kept {
             Kept::Cell(records) => Some(Kept::Cell(records.ranked(ranks)?)),
         }
     }
-
-    /// A number that depends on what is kept alone.
-    fn digest(&self) -> u64 {
-        match self {
-            Kept::Point(view) => view.digest(),
-            Kept::Atomic(state) => state.digest(),
-            Kept::Cell(records) => records.digest(),
-        }
-    }
-}
-
-impl Same for Views {
-    fn is_same(&self, other: &Views) -> bool {
-        self.count == other.count
-            && self.global.is_same(&other.global)
-            && are_same(self.threads.as_slice(), other.threads.as_slice())
-            && are_same(self.places.as_slice(), other.places.as_slice())
-            && are_same(self.stamps.as_slice(), other.stamps.as_slice())
-    }
-}
-
-impl Views {
-    /// A copy. An error where memory is refused (own).
-    pub fn try_clone(&self, alloc: Global) -> Result<Views, AllocError>
-        ensures { IfOk result (λ copy. copy ≡ self.now) }
-    {
-        Ok(Views {
-            threads: copied(&self.threads),
-            count: self.count,
-            places: self.places.try_clone(alloc)?,
-            stamps: self.stamps.try_clone(alloc)?,
-            global: self.global,
-        })
-    }
-
-    /// Views that rules see the same of: with each count of a thread by its rank among those of the thread that stand somewhere
-    /// in these. The room of the spare ones is used for them. An error where memory is refused (own).
-    #[tactic(auto, using(crate::proofs::Sight::InOrder::in_order_itself))]
-    pub fn ranked(&self, alloc: Global, spare: Views) -> Result<Views, AllocError>
-        ensures { IfOk result (λ ranked. IsInOrder self.now ranked) }
-    {
-        let mut standing = Standing::new();
-        self.stand(&mut standing);
-        let Some(ranks) = standing.ranks(alloc)? else {
-            return self.try_clone(alloc);
-        };
-        match self.by_ranks(&ranks, spare)? {
-            Some(ranked) => Ok(ranked),
-            None => self.try_clone(alloc),
-        }
-    }
-
-    /// The counts of these views stand too.
-    fn stand(&self, standing: &mut Standing) {
-        standing.add_all(&self.global);
-        for thread in 0..MAX_THREADS {
-            self.threads[thread].stand(thread, standing);
-        }
-        stand_places(self.places.as_slice(), standing);
-        stand_stamps(self.stamps.as_slice(), standing);
-    }
-
-    /// The views by these ranks, if each count has one, in the room of the spare ones. An error where memory is refused.
-    fn by_ranks(&self, ranks: &Ranks, spare: Views) -> Result<Option<Views>, AllocError>
-        ensures { IfOk result (λ found. IfSome found (λ ranked. PairsViews (Ranked ranks.now) self.now ranked)) }
-    {
-        ranks.zeros();
-        let (Some(threads), Some(global)) = (
-            ranked_threads(&self.threads, ranks),
-            self.global.ranked(ranks),
-        ) else {
-            return Ok(None);
-        };
-        let Views { places, stamps, .. } = spare;
-        let Some(places) = ranked_places(self.places.as_slice(), ranks, places)? else {
-            return Ok(None);
-        };
-        let Some(stamps) = ranked_stamps(self.stamps.as_slice(), ranks, stamps)? else {
-            return Ok(None);
-        };
-        Ok(Some(Views {
-            threads,
-            count: self.count,
-            places,
-            stamps,
-            global,
-        }))
-    }
-
-    /// A number that depends on the views alone: by it they are found again (own).
-    pub fn digest(&self) -> u64 {
-        let mut digest = self.global.digest();
-        for views in self.threads.as_slice() {
-            digest = mixed(digest, views.digest());
-        }
-        for kept in self.places.as_slice() {
-            digest = mixed(digest, kept.digest());
-        }
-        digest
-    }
-}
-
-/// The counts of what is kept of objects stand too.
-fn stand_places(places: &[Kept], standing: &mut Standing) {
-    for kept in places {
-        kept.stand(standing);
-    }
-}
-
-/// So do those of stamps.
-fn stand_stamps(stamps: &[Synchronize], standing: &mut Standing) {
-    for stamp in stamps {
-        stamp.stand(standing);
-    }
-}
-
-/// The views of threads by ranks, if each count has one.
-fn ranked_threads(
-    threads: &[ThreadViews; MAX_THREADS],
-    ranks: &Ranks,
-) -> Option<[ThreadViews; MAX_THREADS]>
-    ensures { IfSome result (λ ranked. (t : ℕ) → t < 5 → PairsAt (Ranked ranks.now) (PairsThreads (Ranked ranks.now) t) (slice_get threads.now t) (slice_get ranked t)) }
-{
-    let [main, first, second, third, fourth] = threads;
-    Some([
-        main.ranked(0, ranks)?,
-        first.ranked(1, ranks)?,
-        second.ranked(2, ranks)?,
-        third.ranked(3, ranks)?,
-        fourth.ranked(4, ranks)?,
-    ])
-}
-
-/// What is kept of objects by ranks, if each count has one, in the room of what is spare. An error where memory is refused.
-fn ranked_places(
-    places: &[Kept],
-    ranks: &Ranks,
-    spare: Places,
-) -> Result<Option<Places>, AllocError>
-    ensures { IfOk result (λ found. IfSome found (λ ranked. PairAll (Ranked ranks.now) (PairsPlaces (Ranked ranks.now)) places.now ranked)) }
-{
-    let mut ranked = spare;
-    ranked.clear();
-    for kept in places {
-        let Some(one) = kept.ranked(ranks) else {
-            return Ok(None);
-        };
-        ranked.push(one)?;
-    }
-    Ok(Some(ranked))
-}
-
-/// So of stamps.
-fn ranked_stamps(
-    stamps: &[Synchronize],
-    ranks: &Ranks,
-    spare: Sequence<Synchronize>,
-) -> Result<Option<Sequence<Synchronize>>, AllocError>
-    ensures { IfOk result (λ found. IfSome found (λ ranked. PairAll (Ranked ranks.now) (PairsVectors (Ranked ranks.now)) stamps.now ranked)) }
-{
-    let mut ranked = spare;
-    ranked.clear();
-    for stamp in stamps {
-        let Some(one) = stamp.ranked(ranks) else {
-            return Ok(None);
-        };
-        ranked.push(one)?;
-    }
-    Ok(Some(ranked))
-}
-
-/// A copy of the views of threads.
-fn copied(threads: &[ThreadViews; MAX_THREADS]) -> [ThreadViews; MAX_THREADS]
-    ensures { result ≡ threads.now }
-{
-    let [main, first, second, third, fourth] = threads;
-    [*main, *first, *second, *third, *fourth]
 }

@@ -1,7 +1,7 @@
 use Rattle.std.proofs.Common.{arith}
 use Rattle.loom_views.specs.InOrder.{PairsVectors, Ranked}
 use Rattle.loom_views.proofs.Ranks.{pair_next}
-use Rattle.loom_views.proofs.rt.views.ranked_stamps.Goals as goal
+use Rattle.loom_views.proofs.rt.views.ranked.ranked_stamps.Goals as goal
 
 pub loop-stamp-preserved : goal.loop-stamp-preserved
 loop-stamp-preserved c =

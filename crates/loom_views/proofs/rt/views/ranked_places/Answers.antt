@@ -1,9 +1,0 @@
-use Rattle.std.proofs.Common.{arith}
-use Rattle.loom_views.specs.InOrder.{PairsPlaces, Ranked}
-use Rattle.loom_views.proofs.Ranks.{pair_next}
-use Rattle.loom_views.proofs.rt.views.ranked_places.Goals as goal
-
-pub loop-kept-preserved : goal.loop-kept-preserved
-loop-kept-preserved c =
-    let pairs = Ranked c.args.ranks.now in
-    pair_next pairs (PairsPlaces pairs) c.args.places.now c.loop-kept.ranked c.push.new.self c.loop-kept.kept-index c.kept-item.result c.in-Some.one (omega (arith, c.loop-kept-test.true)) c.in_ok-push.ensures.ok c.loop-kept.invariant c.kept-item.is c.in-Some.ensures
