@@ -1,6 +1,6 @@
 -- One object more, in little room.
 use Rattle.std.proofs.Common.{◌≡◌, ◌≤◌, ◌+◌, ◌-◌, ℕ, zero, suc, arith, List, [], ◌∷◌, ◌++◌, length, take, drop, replicate, refl, ap, ap₂, sym, ◌∙◌, subst, append-nil}
-use Rattle.std.proofs.lemmas.List.{drop-append-le, length-append, length-drop, take-append-drop, take-append-le, take_all}
+use Rattle.std.proofs.lemmas.List.{drop-append-le, length-append, length-drop, length-take-le, take-append-drop, take-append-le, take_all}
 use Rattle.loom_views.specs.declared.rt.atomic.Head.{Head}
 use Rattle.loom_views.specs.declared.rt.atomic.State.{State}
 use Rattle.loom_views.specs.declared.rt.atomic.Store.{Store}
@@ -11,7 +11,7 @@ use Rattle.loom_views.specs.declared.rt.views.packed.Packed.TheVariants.{Point, 
 use Rattle.loom_views.specs.Packed.{all_stores, empty_store, unpacked, whole}
 
 pub all_pushed : (list : List Packed) (one : Packed) → all_stores (list ++ one ∷ []) ≡ all_stores list + all_stores (one ∷ [])
-all_pushed [] one = refl
+all_pushed [] one = omega arith
 all_pushed (Point view ∷ list) one = all_pushed list one
 all_pushed (Cell records ∷ list) one = all_pushed list one
 all_pushed (Atomic head ∷ list) one = let h = all_pushed list one in omega (arith, h)
@@ -54,6 +54,9 @@ pub filled_so : (stores : List Store) (k : ℕ) → length stores ≡ 7 → k �
 filled_so stores k size few rest =
     let left : length (drop k stores) ≡ 7 - k = (let l = length-drop k stores in omega (arith, size, few, l)) in
     sym (take-append-drop k stores) ∙ ap (λ (l : List Store). take k stores ++ l) (rest ∙ ap (λ (n : ℕ). replicate n empty_store) left)
+
+pub counted_so : (stores : List Store) (k : ℕ) → length stores ≡ 7 → k ≤ 7 → length (take k stores) ≡ k
+counted_so stores k size few = length-take-le k stores (omega (arith, size, few))
 
 pub filled_all : (stores : List Store) → length stores ≡ 7 → stores ≡ take 7 stores ++ replicate (7 - 7) empty_store
 filled_all stores size = sym (append-nil (take 7 stores) ∙ take_all 7 stores (omega (arith, size)))

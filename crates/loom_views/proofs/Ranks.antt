@@ -1,10 +1,12 @@
 -- Ranks of counts: a table of them, one count after another, and what they leave of views.
-use Rattle.std.proofs.Common.{zero, suc, ◌≡◌, ℕ, ◌+◌, ◌<◌, List, [], ◌∷◌, ◌++◌, length, take, take-suc, get_or, refl, ap, sym, ◌∙◌, arith, subst, ◌⊎◌, inl, inr, ⊎_elim, Option, Some, None}
+use Rattle.std.proofs.Common.{zero, suc, ◌≡◌, ℕ, ◌+◌, ◌<◌, ◌≤◌, List, [], ◌∷◌, ◌++◌, length, take, take-suc, get_or, refl, ap, sym, ◌∙◌, arith, subst, ◌⊎◌, inl, inr, ⊎_elim, Option, Some, None}
 use Rattle.std.specs.Prelude.{nat_le, slice_get, slice_index}
 use Rattle.std.specs.List.{AllByRecursion}
 use Rattle.std.proofs.lemmas.Bool.{cases_eq, le-leb, lt-leb}
 use Rattle.std.proofs.lemmas.List.{get_or_default, length_push}
-use Rattle.loom_views.specs.InOrder.{AreRising, IsRising, PairsAt, PairsCounts, PairsStores, PairAll, PairsViews, IsInOrder, Ranked, rank_at, rank_in}
+use Rattle.loom_views.specs.Limits.{highest_version}
+use Rattle.loom_views.specs.Versions.{IsCounted}
+use Rattle.loom_views.specs.InOrder.{AreRising, IsRising, PairsAt, PairsVectors, PairsCounts, PairsStores, PairAll, PairsViews, IsInOrder, Ranked, rank_at, rank_in}
 use Rattle.loom_views.specs.declared.rt.views.Views.{Views}
 use Rattle.loom_views.specs.declared.rt.atomic.Store.{Store}
 use Rattle.loom_views.specs.Atomic.Ring.{blank_store, store_at}
@@ -153,3 +155,25 @@ zeros_themselves R word counts zero_word is zeros t l =
     let here : slice_index (counts_in word) t ≡ 0 = ap (λ (w : ℕ). slice_index (counts_in w) t) zero_word ∙ no_count t l in
     let there : slice_index counts t ≡ 0 = ap (λ (cs : List ℕ). slice_index cs t) is ∙ here in
     subst (λ (n : ℕ). R t (slice_index counts t) n) (sym here) (subst (λ (n : ℕ). R t n 0) (sym there) (zeros t l))
+
+-- ---- five counts
+
+pub five_counted : (a b c d e : ℕ) → a ≤ highest_version → b ≤ highest_version → c ≤ highest_version → d ≤ highest_version → e ≤ highest_version → IsCounted (a ∷ b ∷ c ∷ d ∷ e ∷ [])
+five_counted a b c d e j k l m n zero = j
+five_counted a b c d e j k l m n (suc zero) = k
+five_counted a b c d e j k l m n (suc (suc zero)) = l
+five_counted a b c d e j k l m n (suc (suc (suc zero))) = m
+five_counted a b c d e j k l m n (suc (suc (suc (suc zero)))) = n
+five_counted a b c d e j k l m n (suc (suc (suc (suc (suc t))))) = omega arith
+
+pub five_ranked : (R : ℕ → ℕ → ℕ → Type 0) (vs ws : List ℕ) (v w x y z a b c d e : ℕ) → ws ≡ a ∷ b ∷ c ∷ d ∷ e ∷ [] → v ≡ slice_index vs 0 → w ≡ slice_index vs 1 → x ≡ slice_index vs 2 → y ≡ slice_index vs 3 → z ≡ slice_index vs 4
+    → R 0 v a → R 1 w b → R 2 x c → R 3 y d → R 4 z e → PairsVectors R vs ws
+five_ranked R vs ws v w x y z a b c d e is f g h i j r s t u o = λ k l. subst (λ (l : List ℕ). R k (slice_index vs k) (slice_index l k)) (sym is) (at k l)
+  where
+    at : (k : ℕ) → k < 5 → R k (slice_index vs k) (slice_index (a ∷ b ∷ c ∷ d ∷ e ∷ []) k)
+    at zero l = subst (λ (n : ℕ). R 0 n a) f r
+    at (suc zero) l = subst (λ (n : ℕ). R 1 n b) g s
+    at (suc (suc zero)) l = subst (λ (n : ℕ). R 2 n c) h t
+    at (suc (suc (suc zero))) l = subst (λ (n : ℕ). R 3 n d) i u
+    at (suc (suc (suc (suc zero)))) l = subst (λ (n : ℕ). R 4 n e) j o
+    at (suc (suc (suc (suc (suc k))))) l = absurd (omega (arith, l))

@@ -33,6 +33,13 @@ lane-word_of (v ∷ vs) h (suc t) = lane-next v (word_of vs) t h.0.fits ∙ lane
 lane-listed : (word : ℕ) (vs : List ℕ) → word_of vs ≡ word → Each1 (Fits w16) vs → (t : ℕ) → lane word t ≡ get_or vs t 0
 lane-listed word vs e h t = ap (λ w. lane w t) (sym e) ∙ lane-word_of vs h t
 
+-- five counts are those of their word
+pub counts_of : (a b c d e : ℕ) → a < 2 ^ 16 → b < 2 ^ 16 → c < 2 ^ 16 → d < 2 ^ 16 → e < 2 ^ 16 → counts_in (word_of (a ∷ b ∷ c ∷ d ∷ e ∷ [])) ≡ a ∷ b ∷ c ∷ d ∷ e ∷ []
+counts_of a b c d e j k l m n =
+    let fits : Each1 (Fits w16) (a ∷ b ∷ c ∷ d ∷ e ∷ []) = (record { fits = j }, (record { fits = k }, (record { fits = l }, (record { fits = m }, (record { fits = n }, tt))))) in
+    let at : (t : ℕ) → lane (word_of (a ∷ b ∷ c ∷ d ∷ e ∷ [])) t ≡ get_or (a ∷ b ∷ c ∷ d ∷ e ∷ []) t 0 = lane-word_of (a ∷ b ∷ c ∷ d ∷ e ∷ []) fits in
+    λ i. at 0 i ∷ at 1 i ∷ at 2 i ∷ at 3 i ∷ at 4 i ∷ []
+
 lane_far : (word t : ℕ) → word < 2 ^ 128 → 8 ≤ t → lane word t ≡ 0
 lane_far word t h l =
     let far : 2 ^ 128 ≤ 2 ^ (16 * t) = pow_mono {i = 128} {j = 16 * t} (omega arith) in

@@ -689,14 +689,10 @@ impl State {
     /// How many stores there are up to the last one that isn't empty, or all.
     fn filled(&self) -> usize
         ensures few { result ≤ 7 }
+        ensures counted { length (take result self.now.stores) ≡ result }
         ensures filled { self.now.stores ≡ take result self.now.stores ++ replicate (7 - result) empty_store }
     {
-        let kept = self.kept();
-        if are_empty(&self.stores.as_slice()[kept..]) {
-            kept
-        } else {
-            MAX_ATOMIC_HISTORY
-        }
+        filled(&self.stores, self.kept())
     }
 
     /// What is kept but for the stores, of which those that aren't empty are put behind these. An error where memory is refused (own).
@@ -764,6 +760,21 @@ impl Store {
             first_seen: FirstSeen::new(),
             seq_cst: false,
         }
+    }
+}
+
+/// So many, if no store behind them is kept, or all.
+#[tactic(auto, using(crate::proofs::Packed::filled_so, crate::proofs::Packed::filled_all, crate::proofs::Packed::counted_so))]
+fn filled(stores: &[Store; MAX_ATOMIC_HISTORY], kept: usize) -> usize
+    requires { kept ≤ 7 }
+    ensures few { result ≤ 7 }
+    ensures counted { length (take result stores.now) ≡ result }
+    ensures filled { stores.now ≡ take result stores.now ++ replicate (7 - result) empty_store }
+{
+    if are_empty(&stores.as_slice()[kept..]) {
+        kept
+    } else {
+        MAX_ATOMIC_HISTORY
     }
 }
 

@@ -1,7 +1,7 @@
 //! Version vectors: how often each thread has raised its version, as far as a view reaches. They are plain values; no call
 //! here takes memory.
 
-ghost use Rattle.std.specs.Prelude.{◌≡◌, ◌≢◌, ℕ, ◌+◌, ◌<◌, ◌≤◌, ◌↔◌, false, IsTrue, IfSome, slice_index, MatchOption};
+ghost use Rattle.std.specs.Prelude.{◌≡◌, ◌≢◌, ◌∷◌, [], ℕ, ◌+◌, ◌<◌, ◌≤◌, ◌↔◌, false, IsTrue, IfSome, slice_index, MatchOption};
 ghost use Rattle.loom_views.specs.InOrder.{PairsVectors, Ranked};
 ghost use Rattle.std.specs.Bool.{OnTrue, OnFalse};
 ghost use Rattle.loom_views.specs.Lanes.{IsLaidOut};
@@ -129,14 +129,14 @@ impl VersionVec {
 }
 
 impl VersionVec {
-    /// Another count for a thread.
-    fn set(&mut self, thread: usize, count: u16)
-        requires thread { thread < 5 }
-        requires counted { count ≤ highest_version }
-        ensures set { slice_index self.new thread ≡ count }
-        ensures others { (t : ℕ) → t < 5 → t ≢ thread → slice_index self.new t ≡ slice_index self.old t }
+    /// The vector of these counts.
+    fn of(zeroth: u16, first: u16, second: u16, third: u16, fourth: u16) -> VersionVec
+        requires counted { IsCounted (zeroth ∷ first ∷ second ∷ third ∷ fourth ∷ []) }
+        ensures { result ≡ zeroth ∷ first ∷ second ∷ third ∷ fourth ∷ [] }
     {
-        self.word = lanes::set(self.word, thread, count);
+        VersionVec {
+            word: lanes::of(zeroth, first, second, third, fourth),
+        }
     }
 
     /// The ranks of its counts, if each has one (own).
@@ -147,12 +147,12 @@ impl VersionVec {
             ranks.zeros();
             return Some(*self);
         }
-        let mut ranked = *self;
-        for thread in 0..MAX_THREADS {
-            let rank = ranks.rank(thread, self.version(thread))?;
-            ranked.set(thread, rank);
-        }
-        Some(ranked)
+        let zeroth = ranks.rank(0, self.version(0))?;
+        let first = ranks.rank(1, self.version(1))?;
+        let second = ranks.rank(2, self.version(2))?;
+        let third = ranks.rank(3, self.version(3))?;
+        let fourth = ranks.rank(4, self.version(4))?;
+        Some(VersionVec::of(zeroth, first, second, third, fourth))
     }
 }
 
@@ -167,7 +167,7 @@ impl VersionVec {
 pub fn word_digest(word: u128) -> u64 {
     let low = (word % 0x1_0000_0000_0000_0000) as u64;
     let high = (word >> 64) as u64;
-    mixed(mixed(low, high), 0)
+    low ^ high.wrapping_mul(0xD6E8_FEB8_6659_FD93)
 }
 
 /// A number that depends on two (own).

@@ -1,7 +1,7 @@
 //! A word of 128 bits as eight lanes of 16 bits, of which a version vector gives one to each thread (own). Only this file knows
 //! which bits a lane is.
 
-ghost use Rattle.std.specs.Prelude.{◌≡◌, ◌≢◌, ◌↔◌, ℕ, ◌<◌, ◌≤◌, IsTrue, MatchOption, max};
+ghost use Rattle.std.specs.Prelude.{◌≡◌, ◌≢◌, ◌↔◌, ◌∷◌, [], ℕ, ◌<◌, ◌≤◌, IsTrue, MatchOption, max};
 ghost use Rattle.loom_views.specs.Lanes.{lane, lanes_in, word_of, AreLarger, IsFirstLarger};
 
 use std::simd::{u16x8, u64x2};
@@ -23,6 +23,13 @@ pub fn set(word: u128, thread: usize, count: u16) -> u128
     let mut counts = lanes(word).to_array();
     counts[thread] = count;
     word_of(u16x8::from_array(counts))
+}
+
+/// The word with these numbers in the lanes of the threads, and zero in the others (own).
+pub fn of(zeroth: u16, first: u16, second: u16, third: u16, fourth: u16) -> u128
+    ensures { result ≡ word_of (zeroth ∷ first ∷ second ∷ third ∷ fourth ∷ []) }
+{
+    word_of(u16x8::from_array([zeroth, first, second, third, fourth, 0, 0, 0]))
 }
 
 /// The word with the larger number of each lane (own).
