@@ -4,4 +4,4 @@ pub mod Readers
 pub mod Ring
 pub mod Shown
 pub mod Slots
-pub mod Untouched
+pub mod Touches

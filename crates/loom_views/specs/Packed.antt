@@ -8,7 +8,7 @@ use Rattle.loom_views.specs.declared.rt.views.Kept.{Kept}
 use Rattle.loom_views.specs.declared.rt.views.Kept.TheVariants as kept
 use Rattle.loom_views.specs.declared.rt.views.packed.Packed.{Packed}
 use Rattle.loom_views.specs.declared.rt.views.packed.Packed.TheVariants.{Point, Atomic, Cell}
-use Rattle.loom_views.specs.Atomic.Untouched.{untouched}
+use Rattle.loom_views.specs.Atomic.Touches.{untouched}
 use Rattle.loom_views.specs.Versions.{zeros}
 
 -- nothing is stored there

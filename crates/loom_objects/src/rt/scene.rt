@@ -218,6 +218,14 @@ impl<D: Drop> Scene<D> {
         self.threads.push(thread)
     }
 
+    /// The active thread has this pending, and can't go on while it is blocked.
+    pub fn pend(&mut self, task: Task<D>, is_blocked: bool)
+        ensures { self.new ≡ record self.old { threads = moves.with_thread (moves.pending task is_blocked) self.old.active self.old.threads } }
+    {
+        let thread = self.threads.at_mut(self.active as usize);
+        thread.pend(task, is_blocked);
+    }
+
     /// The thread of this number is chosen: it is active, and each other one that has yielded can go on again. It has nothing
     /// pending any more; answers what it had. Misuse where there is no such thread.
     pub fn choose(&mut self, thread: u8) -> Result<Task<D>, FailureKind>
@@ -240,6 +248,18 @@ impl<D: Drop> Scene<D> {
         ensures { result ≡ Resumed.Passed (Passed.Turn (Turn.Reply self.now.active reply)) }
     {
         Resumed::Passed(Passed::Turn(Turn::Reply(self.active, reply)))
+    }
+}
+
+impl<D: Drop> Thread<D> {
+    /// The thread has this pending, and can't go on while it is blocked.
+    fn pend(&mut self, task: Task<D>, is_blocked: bool)
+        ensures { self.new ≡ moves.pending task is_blocked self.old }
+    {
+        if is_blocked {
+            self.state = State::Blocked;
+        }
+        self.task = task;
     }
 }
 

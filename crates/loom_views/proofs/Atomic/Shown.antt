@@ -9,7 +9,7 @@ use Rattle.loom_views.specs.declared.rt.atomic.Store.{Store}
 use Rattle.loom_views.specs.declared.rt.atomic.State.{State}
 use Rattle.loom_views.specs.declared.rt.synchronize.ThreadViews.{ThreadViews}
 use Rattle.loom_views.specs.Graph.{Point, Graph, threads, version, Shows, IsChained}
-use Rattle.loom_views.specs.Atomic.Untouched.{untouched}
+use Rattle.loom_views.specs.Atomic.Touches.{untouched}
 use Rattle.loom_views.specs.Orderings.{is_release, is_seq_cst}
 use Rattle.loom_views.specs.Versions.{join_all}
 use Rattle.loom_views.specs.Atomic.Slots.{slots, is_left_out, number_in_slot}

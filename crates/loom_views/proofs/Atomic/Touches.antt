@@ -6,7 +6,7 @@ use Rattle.std.proofs.lemmas.Bool.{cases_eq, cases_lt, eq-eqb, ne_eqb, leb-false
 use Rattle.loom_views.specs.Graph.{threads}
 use Rattle.loom_views.specs.Lanes.{lane, counts_in, AreLarger, IsLaidOut}
 use Rattle.loom_views.specs.Atomic.Ring.{is_version_seen, is_touch_in}
-use Rattle.loom_views.specs.Atomic.Untouched.{touch_in, touches_in, IsPadded}
+use Rattle.loom_views.specs.Atomic.Touches.{touch_in, touches_in, IsPadded}
 use Rattle.loom_views.proofs.Views.Lanes.{counts_set, lane_above}
 
 -- what stands above the threads' lanes stays

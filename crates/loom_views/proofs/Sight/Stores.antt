@@ -11,7 +11,7 @@ use Rattle.loom_views.specs.Graph.{Graph, inside, moved}
 use Rattle.loom_views.specs.Orderings.{is_release, is_seq_cst}
 use Rattle.loom_views.specs.ThreadViews.{ThreadPoints, with_present, graph_after_acquire, graph_after_store}
 use Rattle.loom_views.specs.Atomic.Slots.{slots, is_left_out, number_in_slot, readable_slots, has_equal_orders}
-use Rattle.loom_views.specs.Atomic.Untouched.{untouched}
+use Rattle.loom_views.specs.Atomic.Touches.{untouched}
 use Rattle.loom_views.specs.Atomic.History.{StorePoints, blank, in_slot, is_touch_seen, is_touch_before, touch_of, is_seen, is_below, has_same_order, drops, drops_in_slot, has_same_order_in_slot, readable, fails_by_orders, is_order_seen_from, seen_orders, touch, graph_after_read, stores_after_read, Ordered, order_raised, orders_raised, is_order_above, slots_above, after_read, graph_with_order, graph_with_start, graph_after_make, stores_after_make, with_newest}
 use Rattle.loom_views.specs.Atomic.Fences.{Standing, after_stores, kept_stores}
 use Rattle.loom_views.specs.Views.{Place, Meets, Keeps, Records, stores_at}

@@ -10,7 +10,7 @@ use Rattle.loom_views.specs.declared.rt.atomic.reader.Reader.{Reader}
 use Rattle.loom_views.specs.declared.rt.atomic.reader.Reader.TheVariants.{Load, Update}
 use Rattle.loom_views.specs.Graph.{Graph, moved, moved_raising, threads, reaches, raised, version, inside}
 use Rattle.loom_views.specs.Atomic.Slots.{slots, is_left_out, number_in_slot, readable_slots, has_equal_orders}
-use Rattle.loom_views.specs.Atomic.Untouched.{untouched}
+use Rattle.loom_views.specs.Atomic.Touches.{untouched}
 use Rattle.loom_views.specs.Orderings.{is_seq_cst}
 use Rattle.loom_views.specs.ThreadViews.{ThreadPoints, graph_after_load, thread_after_load, graph_after_store}
 use Rattle.loom_views.specs.Limits.{most_stores}

@@ -1,7 +1,7 @@
 -- What is kept of an atomic, in vectors.
 use Rattle.std.specs.Prelude.{ℕ, ◌+◌, ◌%◌, Bool, true, false, not, ◌&&◌, ◌||◌, ◌==◌, nat_le, if◌then◌else◌, List, [], ◌∷◌, map, slice_index, slice_index_or, slice_set, Option, Some, None, is_some, Result, Ok, Err, nat_lt}
 use Rattle.std.specs.List.{list_all}
-use Rattle.loom_views.specs.Atomic.Untouched.{untouched}
+use Rattle.loom_views.specs.Atomic.Touches.{untouched}
 use Rattle.loom_views.specs.declared.rt.failure.FailureKind.{FailureKind}
 use Rattle.loom_views.specs.declared.rt.failure.FailureKind.TheVariants.{Race, OpenAccess, TooManyStores}
 use Rattle.std.specs.List.{list_any, filter}

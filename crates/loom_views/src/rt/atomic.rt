@@ -13,7 +13,7 @@ ghost use Rattle.loom_views.specs.Limits.{highest_version, most_stores};
 ghost use Rattle.loom_views.specs.Packed.{empty_store, whole};
 ghost use Rattle.loom_views.specs.declared.rt.atomic.Store.{Store};
 ghost use Rattle.loom_views.specs.Versions.{join, join_all};
-ghost use Rattle.loom_views.specs.Atomic.Untouched.{untouched};
+ghost use Rattle.loom_views.specs.Atomic.Touches.{untouched};
 ghost use Rattle.loom_views.specs.declared.rt.failure.FailureKind.TheVariants.{OrdersEqual, TooManyStores};
 ghost use Rattle.loom_views.specs.Atomic.Slots.{slots, slot_set, has_equal_order_at};
 ghost use Rattle.loom_views.specs.Atomic.Ring.{is_touch_in, is_version_before, touch_version, store_at, is_passed, drops_slot, is_same_slot, readable_now, fails_now, is_order_seen, orders_seen, is_slot_above, raised_above, state_read, state_made, load_tracked, store_tracked, unsync_load_tracked, unsync_mut_tracked, load_now, store_now, update_read_now, update_write_now, newest_slot, unsync_load_now, mutate_now, mutate_end_now, state_blank};

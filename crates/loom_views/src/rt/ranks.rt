@@ -184,5 +184,7 @@ impl Ranks {
     /// The rank of the count 0 is 0 (own).
     pub fn zeros(&self)
         ensures { (t : ℕ) → t < 5 → Ranked self.now t 0 0 }
-    {}
+    {
+        let _ = &self.threads;
+    }
 }

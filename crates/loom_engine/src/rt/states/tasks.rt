@@ -10,6 +10,13 @@ use loom_objects::rt::thread::{
 use loom_views::same::Same;
 use std::alloc::{AllocError, Global};
 
+// Whether the task is of this kind, and what it is made of passes the test.
+macro_rules! is_task {
+    ($value:expr, $kind:ident($($part:ident),*) => $test:expr) => {
+        is_kind!($value, Task::$kind($($part),*) => $test)
+    };
+}
+
 // Whether the value is of this kind, and what it is made of passes the test.
 macro_rules! is_kind {
     ($value:expr, $kind:pat => $test:expr) => {
@@ -65,41 +72,34 @@ pub(crate) fn is_task_equal<D: Data + Same>(one: &Task<D>, other: &Task<D>) -> b
     match one {
         Task::Start => matches!(other, Task::Start),
         Task::Body => matches!(other, Task::Body),
-        Task::Access(a) => is_kind!(other, Task::Access(x) => is_access_equal(a, x)),
+        Task::Access(a) => is_task!(other, Access(x) => is_access_equal(a, x)),
         Task::Continue => matches!(other, Task::Continue),
-        Task::Lock(a, b) =>
-            is_kind!(other, Task::Lock(x, y) => is_locking_equal(*a, *x) && *b == *y),
-        Task::TryLock(a) => is_kind!(other, Task::TryLock(x) => *a == *x),
-        Task::Claim(a, b) =>
-            is_kind!(other, Task::Claim(x, y) => is_claim_equal(*a, *x) && *b == *y),
+        Task::Lock(a, b) => is_task!(other, Lock(x, y) => is_locking_equal(*a, *x) && *b == *y),
+        Task::TryLock(a) => is_task!(other, TryLock(x) => *a == *x),
+        Task::Claim(a, b) => is_task!(other, Claim(x, y) => is_claim_equal(*a, *x) && *b == *y),
         Task::Wait(a, b, c, d) =>
-            is_kind!(other, Task::Wait(x, y, z, w) => is_locking_equal(*a, *x) && *b == *y && *c == *z && d.is_same(w)),
-        Task::Relock(a, b) =>
-            is_kind!(other, Task::Relock(x, y) => is_locking_equal(*a, *x) && *b == *y),
-        Task::Wake(a, b) =>
-            is_kind!(other, Task::Wake(x, y) => is_waking_equal(*a, *x) && *b == *y),
-        Task::Notify(a) => is_kind!(other, Task::Notify(x) => *a == *x),
-        Task::Await(a) => is_kind!(other, Task::Await(x) => *a == *x),
-        Task::Rouse(a) => is_kind!(other, Task::Rouse(x) => *a == *x),
-        Task::Count(a, b) =>
-            is_kind!(other, Task::Count(x, y) => is_counting_equal(*a, *x) && *b == *y),
-        Task::TryUnwrap(a) => is_kind!(other, Task::TryUnwrap(x) => *a == *x),
-        Task::Join(a, b) => is_kind!(other, Task::Join(x, y) => *a == *x && *b == *y),
-        Task::Finish(a, b) => is_kind!(other, Task::Finish(x, y) => *a == *x && b.is_same(y)),
-        Task::Send(a, b) =>
-            is_kind!(other, Task::Send(x, y) => *a == *x && are_messages_equal(b, y)),
+            is_task!(other, Wait(x, y, z, w) => is_locking_equal(*a, *x) && *b == *y && *c == *z && d.is_same(w)),
+        Task::Relock(a, b) => is_task!(other, Relock(x, y) => is_locking_equal(*a, *x) && *b == *y),
+        Task::Wake(a, b) => is_task!(other, Wake(x, y) => is_waking_equal(*a, *x) && *b == *y),
+        Task::Notify(a) => is_task!(other, Notify(x) => *a == *x),
+        Task::Await(a) => is_task!(other, Await(x) => *a == *x),
+        Task::Rouse(a) => is_task!(other, Rouse(x) => *a == *x),
+        Task::Count(a, b) => is_task!(other, Count(x, y) => is_counting_equal(*a, *x) && *b == *y),
+        Task::TryUnwrap(a) => is_task!(other, TryUnwrap(x) => *a == *x),
+        Task::Join(a, b) => is_task!(other, Join(x, y) => *a == *x && *b == *y),
+        Task::Finish(a, b) => is_task!(other, Finish(x, y) => *a == *x && b.is_same(y)),
+        Task::Send(a, b) => is_task!(other, Send(x, y) => *a == *x && are_messages_equal(b, y)),
         Task::Receive(a, b) =>
-            is_kind!(other, Task::Receive(x, y) => is_receiving_equal(*a, *x) && *b == *y),
-        Task::Drain(a, b) => is_kind!(other, Task::Drain(x, y) => *a == *x && are_data_equal(b, y)),
+            is_task!(other, Receive(x, y) => is_receiving_equal(*a, *x) && *b == *y),
+        Task::Drain(a, b) => is_task!(other, Drain(x, y) => *a == *x && are_data_equal(b, y)),
         Task::WakeBy(a, b, c) =>
-            is_kind!(other, Task::WakeBy(x, y, z) => *a == *x && *b == *y && is_after_wake_equal(*c, *z)),
-        Task::CloneWaker(a, b) =>
-            is_kind!(other, Task::CloneWaker(x, y) => *a == *x && b.is_same(y)),
+            is_task!(other, WakeBy(x, y, z) => *a == *x && *b == *y && is_after_wake_equal(*c, *z)),
+        Task::CloneWaker(a, b) => is_task!(other, CloneWaker(x, y) => *a == *x && b.is_same(y)),
         Task::DropWaker(a, b) =>
-            is_kind!(other, Task::DropWaker(x, y) => *a == *x && is_after_drop_equal(*b, *y)),
-        Task::Register(a, b) => is_kind!(other, Task::Register(x, y) => *a == *x && *b == *y),
+            is_task!(other, DropWaker(x, y) => *a == *x && is_after_drop_equal(*b, *y)),
+        Task::Register(a, b) => is_task!(other, Register(x, y) => *a == *x && *b == *y),
         Task::TakeWaker(a, b) =>
-            is_kind!(other, Task::TakeWaker(x, y) => is_taking_equal(*a, *x) && *b == *y),
+            is_task!(other, TakeWaker(x, y) => is_taking_equal(*a, *x) && *b == *y),
     }
 }
 

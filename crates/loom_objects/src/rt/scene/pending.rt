@@ -9,18 +9,6 @@ use crate::rt::thread::{Claim, Phase, State, Task, Thread};
 use loom_views::rt::failure::FailureKind;
 use loom_views::sequence::Sequence;
 
-impl<D: Drop> Thread<D> {
-    /// The thread has this pending, and can't go on while it is blocked.
-    pub fn pend(&mut self, task: Task<D>, is_blocked: bool)
-        ensures { self.new ≡ moves.pending task is_blocked self.old }
-    {
-        if is_blocked {
-            self.state = State::Blocked;
-        }
-        self.task = task;
-    }
-}
-
 /// Whether the thread is pending on the object of this number.
 fn is_pending_on<D>(task: &Task<D>, number: usize) -> bool
     ensures { result ≡ is_number (target_of task.now) number }
@@ -119,14 +107,6 @@ fn give_token<D>(thread: &mut Thread<D>)
 }
 
 impl<D: Drop> Scene<D> {
-    /// The active thread has this pending, and can't go on while it is blocked.
-    pub fn pend(&mut self, task: Task<D>, is_blocked: bool)
-        ensures { self.new ≡ record self.old { threads = moves.with_thread (moves.pending task is_blocked) self.old.active self.old.threads } }
-    {
-        let thread = self.threads.at_mut(self.active as usize);
-        thread.pend(task, is_blocked);
-    }
-
     /// The active thread rests in this state, and then has this pending.
     pub fn rest(&mut self, state: State, task: Task<D>)
         ensures { self.new ≡ record self.old { threads = moves.with_thread (moves.resting state task) self.old.active self.old.threads } }

@@ -11,7 +11,7 @@ use Rattle.loom_views.specs.declared.rt.atomic.reader.Reader.TheVariants.{Load, 
 use Rattle.loom_views.specs.Graph.{Graph, reaches, inside}
 use Rattle.loom_views.specs.Orderings.{is_seq_cst, is_acquire}
 use Rattle.loom_views.specs.ThreadViews.{ThreadPoints}
-use Rattle.loom_views.specs.Atomic.Untouched.{untouched}
+use Rattle.loom_views.specs.Atomic.Touches.{untouched}
 use Rattle.loom_views.specs.Atomic.Slots.{upto, slots, number_in_slot, has_order_of, has_equal_order_at}
 use Rattle.loom_views.specs.Atomic.History.{StorePoints, Scene, blank, with_newest, has_same_order, has_same_order_in_slot, is_below, in_slot, touch, touch_of, is_seen, is_touch_before, drops, drops_in_slot, readable, fails_by_orders, graph_with_order, graph_with_start, scene_read, scene_loaded, scene_made, new_step}
 use Rattle.loom_views.specs.Views.{has_slot}

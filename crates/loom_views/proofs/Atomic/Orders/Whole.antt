@@ -15,7 +15,7 @@ use Rattle.loom_views.specs.ThreadViews.{ThreadPoints, with_present, graph_after
 use Rattle.loom_views.specs.Atomic.Fences.{Standing, after_store, after_stores}
 use Rattle.loom_views.specs.Atomic.History.{History, Ordered, Scene, StorePoints, blank, graph_after_read, in_slot, is_seen, load_step, mutate_end_step, mutate_step, new_history, new_step, order_raised, orders_raised, scene_loaded, scene_made, scene_read, scene_recorded_load, scene_recorded_store, slots_above, store_step, stores_after_read, touch, unsync_load_step, update_read_step, update_write_step, with_newest}
 use Rattle.loom_views.specs.Atomic.Slots.{number_in_slot}
-use Rattle.loom_views.specs.Atomic.Untouched.{untouched}
+use Rattle.loom_views.specs.Atomic.Touches.{untouched}
 use Rattle.loom_views.specs.CellAccesses.{Accesses, read_step, write_step}
 use Rattle.loom_views.specs.Views.{Accessed, Keeps, Meets, Place, Points, Records, acquire_by, acquire_fence_by, add_atomic_by, add_cell_by, fence_by, join_by, meet_by, opening, points_after_acquire_fence, points_after_fence, points_after_load, points_after_raise, points_after_release_fence, points_after_spawn, points_after_store, points_after_unsync_load, points_after_update_read, points_after_update_write, points_after_with_mut, points_after_with_mut_end, points_of, record_by, recorded, release_by, scene_of, spawn_by, stamp_acquire_by, stamp_by, stamp_release_by, stores_at, update_fail_by, with_place, with_thread, yield_by}
 use Rattle.loom_views.specs.Laws.Moves.{Moves, acquire, release, join, yielding, spawn, fence, new_point, new_stamp, stamp, release_to_stamp, acquire_from_stamp, new_atomic, load, store, update, update_fail, unsync_load, with_mut, with_mut_end, new_cell, begin_read, end_read, begin_write, end_write}

@@ -2,7 +2,7 @@
 
 ghost use Rattle.std.specs.Prelude.{◌≡◌, ◌≢◌, ◌<◌, ◌≤◌, ℕ, IfSome, None, Some, slice_index_or, slice_set};
 ghost use Rattle.loom_views.specs.Atomic.Ring.{is_touch_in};
-ghost use Rattle.loom_views.specs.Atomic.Untouched.{untouched};
+ghost use Rattle.loom_views.specs.Atomic.Touches.{untouched};
 ghost use Rattle.loom_views.specs.InOrder.{PairsTouches, Ranked};
 ghost use Rattle.loom_views.specs.Limits.{highest_version};
 
@@ -24,7 +24,7 @@ pub struct Touches {
 impl Model for Touches {
     ghost use Rattle.std.specs.Prelude.{ℕ, List, Option};
     ghost use Rattle.std.proofs.Common.{ap};
-    ghost use Rattle.loom_views.specs.Atomic.Untouched.{touches_in, word_of, IsPadded, word_of-touches_in};
+    ghost use Rattle.loom_views.specs.Atomic.Touches.{touches_in, word_of, IsPadded, word_of-touches_in};
 
     ghost Value = { List (Option ℕ) };
 

@@ -1,5 +1,5 @@
 use Rattle.std.proofs.Common.{ap, sym, ◌∙◌, arith}
-use Rattle.loom_views.specs.Atomic.Untouched.{touch_in}
+use Rattle.loom_views.specs.Atomic.Touches.{touch_in}
 use Rattle.loom_views.proofs.Atomic.Touches.{padded_on, touch-at, touch_back}
 use Rattle.loom_views.proofs.rt.atomic.touches.Touches.put.Goals as goal
 
