@@ -27,6 +27,54 @@ use std::alloc::{AllocError, Global};
 use std::collections::LinkedList;
 use std::sync::atomic::Ordering;
 
+// The reply with this in the place of each value. It holds no list.
+macro_rules! with_data {
+    ($reply:expr, $value:ident => $data:expr) => {
+        match $reply {
+            Reply::Start => Reply::Start,
+            Reply::Done => Reply::Done,
+            Reply::Atomic(atomic) => Reply::Atomic(*atomic),
+            Reply::Value(value) => Reply::Value(*value),
+            Reply::Exchanged(answer) => Reply::Exchanged(*answer),
+            Reply::Data($value) => Reply::Data($data),
+            Reply::Cell(cell) => Reply::Cell(*cell),
+            Reply::Reading(cell, $value) => Reply::Reading(*cell, $data),
+            Reply::Writing(cell, $value) => Reply::Writing(*cell, $data),
+            Reply::Arc(arc) => Reply::Arc(*arc),
+            Reply::Shared => Reply::Shared,
+            Reply::Track(track) => Reply::Track(*track),
+            Reply::Mutex(mutex) => Reply::Mutex(*mutex),
+            Reply::Locked(mutex, $value) => Reply::Locked(*mutex, $data),
+            Reply::Waited(mutex, $value, timed_out) => Reply::Waited(*mutex, $data, *timed_out),
+            Reply::WouldBlock => Reply::WouldBlock,
+            Reply::RwLock(lock) => Reply::RwLock(*lock),
+            Reply::ReadLocked(lock, $value) => Reply::ReadLocked(*lock, $data),
+            Reply::WriteLocked(lock, $value) => Reply::WriteLocked(*lock, $data),
+            Reply::Condvar(condvar) => Reply::Condvar(*condvar),
+            Reply::Notify(notifier) => Reply::Notify(*notifier),
+            Reply::Channel(channel) => Reply::Channel(*channel),
+            Reply::Empty => Reply::Empty,
+            Reply::RecvError => Reply::RecvError,
+            Reply::Disconnected => Reply::Disconnected,
+            Reply::SendError($value) => Reply::SendError($data),
+            Reply::BlockOn(waker) => Reply::BlockOn(*waker),
+            Reply::Waker(waker) => Reply::Waker(*waker),
+            Reply::NoWaker => Reply::NoWaker,
+            Reply::AtomicWaker(place) => Reply::AtomicWaker(*place),
+            Reply::Absent => Reply::Absent,
+            Reply::AccessError => Reply::AccessError,
+            Reply::Stood($value, other) => {
+                let stood = $data;
+                let $value = other;
+                Reply::Stood(stood, $data)
+            }
+            Reply::Thread(thread, name) => Reply::Thread(*thread, *name),
+            Reply::Spawned(thread, name, notifier) => Reply::Spawned(*thread, *name, *notifier),
+            Reply::Messages(_) | Reply::Locals(_) | Reply::Lazies(_) => unreachable!(),
+        }
+    };
+}
+
 /// A request with its label.
 #[derive(Debug, Drop)]
 pub struct Labelled<R> {
@@ -620,44 +668,7 @@ fn copy_single<D: Data>(reply: &Reply<D>) -> Result<Reply<D>, AllocError>
     requires { holds_list reply.now ≡ false }
     ensures { IfOk result (λ copy. copy ≡ reply.now) }
 {
-    Ok(match reply {
-        Reply::Start => Reply::Start,
-        Reply::Done => Reply::Done,
-        Reply::Atomic(x) => Reply::Atomic(*x),
-        Reply::Value(x) => Reply::Value(*x),
-        Reply::Exchanged(x) => Reply::Exchanged(*x),
-        Reply::Data(x) => Reply::Data(x.try_clone()?),
-        Reply::Cell(x) => Reply::Cell(*x),
-        Reply::Reading(x, y) => Reply::Reading(*x, y.try_clone()?),
-        Reply::Writing(x, y) => Reply::Writing(*x, y.try_clone()?),
-        Reply::Arc(x) => Reply::Arc(*x),
-        Reply::Shared => Reply::Shared,
-        Reply::Track(x) => Reply::Track(*x),
-        Reply::Mutex(x) => Reply::Mutex(*x),
-        Reply::Locked(x, y) => Reply::Locked(*x, y.try_clone()?),
-        Reply::Waited(x, y, z) => Reply::Waited(*x, y.try_clone()?, *z),
-        Reply::WouldBlock => Reply::WouldBlock,
-        Reply::RwLock(x) => Reply::RwLock(*x),
-        Reply::ReadLocked(x, y) => Reply::ReadLocked(*x, y.try_clone()?),
-        Reply::WriteLocked(x, y) => Reply::WriteLocked(*x, y.try_clone()?),
-        Reply::Condvar(x) => Reply::Condvar(*x),
-        Reply::Notify(x) => Reply::Notify(*x),
-        Reply::Channel(x) => Reply::Channel(*x),
-        Reply::Empty => Reply::Empty,
-        Reply::RecvError => Reply::RecvError,
-        Reply::Disconnected => Reply::Disconnected,
-        Reply::SendError(x) => Reply::SendError(x.try_clone()?),
-        Reply::BlockOn(x) => Reply::BlockOn(*x),
-        Reply::Waker(x) => Reply::Waker(*x),
-        Reply::NoWaker => Reply::NoWaker,
-        Reply::AtomicWaker(x) => Reply::AtomicWaker(*x),
-        Reply::Absent => Reply::Absent,
-        Reply::AccessError => Reply::AccessError,
-        Reply::Stood(x, y) => Reply::Stood(x.try_clone()?, y.try_clone()?),
-        Reply::Thread(x, y) => Reply::Thread(*x, *y),
-        Reply::Spawned(x, y, z) => Reply::Spawned(*x, *y, *z),
-        Reply::Messages(_) | Reply::Locals(_) | Reply::Lazies(_) => unreachable!(),
-    })
+    Ok(with_data!(reply, value => value.try_clone()?))
 }
 
 /// The operation, without its data and what a spawn starts.
@@ -713,42 +724,5 @@ fn bare_single<D>(reply: &Reply<D>) -> Reply<()>
     requires { holds_list reply.now ≡ false }
     ensures { result ≡ bare_reply reply.now }
 {
-    match reply {
-        Reply::Start => Reply::Start,
-        Reply::Done => Reply::Done,
-        Reply::Atomic(atomic) => Reply::Atomic(*atomic),
-        Reply::Value(value) => Reply::Value(*value),
-        Reply::Exchanged(answer) => Reply::Exchanged(*answer),
-        Reply::Data(_) => Reply::Data(()),
-        Reply::Cell(cell) => Reply::Cell(*cell),
-        Reply::Reading(cell, _) => Reply::Reading(*cell, ()),
-        Reply::Writing(cell, _) => Reply::Writing(*cell, ()),
-        Reply::Arc(arc) => Reply::Arc(*arc),
-        Reply::Shared => Reply::Shared,
-        Reply::Track(track) => Reply::Track(*track),
-        Reply::Mutex(mutex) => Reply::Mutex(*mutex),
-        Reply::Locked(mutex, _) => Reply::Locked(*mutex, ()),
-        Reply::Waited(mutex, _, timed_out) => Reply::Waited(*mutex, (), *timed_out),
-        Reply::WouldBlock => Reply::WouldBlock,
-        Reply::RwLock(lock) => Reply::RwLock(*lock),
-        Reply::ReadLocked(lock, _) => Reply::ReadLocked(*lock, ()),
-        Reply::WriteLocked(lock, _) => Reply::WriteLocked(*lock, ()),
-        Reply::Condvar(condvar) => Reply::Condvar(*condvar),
-        Reply::Notify(notifier) => Reply::Notify(*notifier),
-        Reply::Channel(channel) => Reply::Channel(*channel),
-        Reply::Empty => Reply::Empty,
-        Reply::RecvError => Reply::RecvError,
-        Reply::Disconnected => Reply::Disconnected,
-        Reply::SendError(_) => Reply::SendError(()),
-        Reply::BlockOn(waker) => Reply::BlockOn(*waker),
-        Reply::Waker(waker) => Reply::Waker(*waker),
-        Reply::NoWaker => Reply::NoWaker,
-        Reply::AtomicWaker(place) => Reply::AtomicWaker(*place),
-        Reply::Absent => Reply::Absent,
-        Reply::AccessError => Reply::AccessError,
-        Reply::Stood(_, _) => Reply::Stood((), ()),
-        Reply::Thread(thread, name) => Reply::Thread(*thread, *name),
-        Reply::Spawned(thread, name, notifier) => Reply::Spawned(*thread, *name, *notifier),
-        Reply::Messages(_) | Reply::Locals(_) | Reply::Lazies(_) => unreachable!(),
-    }
+    with_data!(reply, _value => ())
 }

@@ -73,6 +73,7 @@ pub(crate) fn draw_run<
         max_threads: builder.max_threads,
         max_steps: builder.max_steps,
     };
+    drawer.begin();
     let Ok(theirs) = drawer.clone() else {
         return Err(RunnerError::Memory);
     };

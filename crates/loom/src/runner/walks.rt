@@ -125,7 +125,6 @@ fn make_walk<
             });
         }
         builder.log_run(log, number);
-        drawer.begin();
         let run = number + 1;
         let end = draw_run(
             rt, alloc, builder, &path, run, watcher, drawer, closure, visitor,
