@@ -38,13 +38,18 @@ pub fn write(alloc: Global, test: &Test) -> Result<String, AllocError>
         write_location(location, &mut text)?;
     }
     text.push_str("}\n")?;
-    for (number, thread) in test.threads.iter().enumerate() {
-        write!(text, "\nP{number} (")?;
-        write_thread(&test.locations, thread, &mut text)?;
-    }
+    write_threads(test, &mut text)?;
     text.push('\n')?;
     write_question(test, &mut text)?;
     Ok(text)
+}
+
+fn write_threads(test: &Test, text: &mut String) -> Result<(), AllocError> {
+    for (number, thread) in test.threads.iter().enumerate() {
+        write!(text, "\nP{number} (")?;
+        write_thread(&test.locations, thread, text)?;
+    }
+    Ok(())
 }
 
 // What follows the threads. No parentheses are written round the conditions, so that the deepest that is read is read again.

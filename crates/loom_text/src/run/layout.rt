@@ -31,6 +31,10 @@ fn add_terms(terms: &mut Vec<Term>, test: &Test, is_shown: bool) -> Result<(), A
     for thread in 0..test.threads.len() {
         add_registers(terms, test, thread, is_shown)?;
     }
+    add_locations(terms, test, is_shown)
+}
+
+fn add_locations(terms: &mut Vec<Term>, test: &Test, is_shown: bool) -> Result<(), AllocError> {
     let from = terms.len();
     for (number, location) in test.locations.iter().enumerate() {
         let term = Term::Location(number);

@@ -40,19 +40,31 @@ fn thread_code(alloc: Global, thread: &Thread, file: &str) -> Result<Code, Alloc
 // left.
 fn main_code(alloc: Global, test: &Test, layout: &Layout) -> Result<Code, AllocError> {
     let mut code = Assembler::new(alloc, layout.terms.len());
-    for location in &test.locations {
-        let keep = code.fresh(1);
-        let name = Text::first(location.name.as_str());
-        code.ask_named(keep, making(location), Some(name))?;
-    }
-    for thread in 0..test.threads.len() {
-        code.tell(Operation::Spawn(thread + 1, thread_name(thread)))?;
-    }
+    make_all(&mut code, &test.locations)?;
+    start_all(&mut code, test.threads.len())?;
     let bases = join_all(alloc, &mut code, test)?;
     for (place, term) in layout.terms.iter().enumerate() {
         put_term(&mut code, test, bases.as_slice(), *term, place)?;
     }
     code.end(layout.terms.len())
+}
+
+// Makes the object of each location.
+fn make_all(code: &mut Assembler, locations: &[Location]) -> Result<(), AllocError> {
+    for location in locations {
+        let keep = code.fresh(1);
+        let name = Text::first(location.name.as_str());
+        code.ask_named(keep, making(location), Some(name))?;
+    }
+    Ok(())
+}
+
+// Starts so many threads.
+fn start_all(code: &mut Assembler, threads: usize) -> Result<(), AllocError> {
+    for thread in 0..threads {
+        code.tell(Operation::Spawn(thread + 1, thread_name(thread)))?;
+    }
+    Ok(())
 }
 
 // Joins each thread, and answers where the registers of each one are then. Its notifier was made behind all locations.

@@ -121,17 +121,11 @@ fn make_runs<D: Exact, V: Visitor<D>, C: Clock>(
     ensures base { part.new.base ≡ part.old.base }
 {
     let floor = part.base.len();
+    let located = builder.location;
     let mut runs = 0;
     'slice: loop {
         let made = make_round(
-            alloc,
-            limits,
-            builder.location,
-            recording,
-            room,
-            floor,
-            visitor,
-            &mut path,
+            alloc, limits, located, recording, room, floor, visitor, &mut path,
         )?;
         let Some(round) = made else {
             lacks.store(true, Ordering::SeqCst);
