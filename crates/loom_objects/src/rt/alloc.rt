@@ -13,7 +13,7 @@ ghost use Rattle.loom_objects.specs.Scene.Stage.{Does, DoesIfOk};
 use crate::data::Data;
 use crate::operation::{Reply, TrackOp};
 pub use crate::rt::lent::Lent;
-use crate::rt::object::Object;
+use crate::rt::object::{Object, of_kind};
 use crate::rt::run::{Entry, copied};
 use crate::rt::scene::Scene;
 use crate::rt::stages::memory_outside;
@@ -33,10 +33,7 @@ impl<D> Object<D> {
         ensures* writes_back { sem 𝓛 (lends_kind D.row (track_row.the_row D.row) Object.Track self.entry result) }
         ensures value { now_of result ≡ lookup.track_in self.old }
     {
-        match self {
-            Object::Track(track) => Ok(track),
-            _ => Err(FailureKind::Misuse),
-        }
+        of_kind!(self, Track(track))
     }
 }
 
@@ -45,10 +42,7 @@ impl<D: Drop> Scene<D> {
     pub fn track(&self, number: usize) -> Result<&Track<D>, FailureKind>
         ensures { shown_of result ≡ lookup.track_at number self.now.objects }
     {
-        match self.object(number)? {
-            Object::Track(track) => Ok(track),
-            _ => Err(FailureKind::Misuse),
-        }
+        of_kind!(self.object(number)?, Track(track))
     }
 
     /// The tracked value of this number, to change. Misuse where there is none.

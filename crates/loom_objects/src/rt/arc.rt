@@ -14,7 +14,7 @@ ghost use Rattle.loom_objects.specs.Scene.Stage.{Does, DoesIfOk};
 use crate::data::Data;
 use crate::operation::{ArcOp, Reply, Turn};
 pub use crate::rt::lent::Lent;
-use crate::rt::object::Object;
+use crate::rt::object::{Object, of_kind};
 use crate::rt::run::{Entry, Passed, copied};
 use crate::rt::scene::Scene;
 use crate::rt::stages::memory_outside;
@@ -93,10 +93,7 @@ impl<D> Object<D> {
         ensures* writes_back { sem 𝓛 (lends_kind D.row (arc_row.the_row D.row) Object.Arc self.entry result) }
         ensures value { now_of result ≡ lookup.arc_in self.old }
     {
-        match self {
-            Object::Arc(arc) => Ok(arc),
-            _ => Err(FailureKind::Misuse),
-        }
+        of_kind!(self, Arc(arc))
     }
 }
 
@@ -105,10 +102,7 @@ impl<D: Drop> Scene<D> {
     pub fn arc(&self, number: usize) -> Result<&Arc<D>, FailureKind>
         ensures { shown_of result ≡ lookup.arc_at number self.now.objects }
     {
-        match self.object(number)? {
-            Object::Arc(arc) => Ok(arc),
-            _ => Err(FailureKind::Misuse),
-        }
+        of_kind!(self.object(number)?, Arc(arc))
     }
 
     /// The counted reference of this number, to change. Misuse where there is none.

@@ -12,7 +12,7 @@ ghost use Rattle.loom_views.specs.Views.{Points, ShowsViews, IsSlotKept, points_
 ghost use Rattle.loom_objects.specs.Operation.Accessed.{accessed};
 
 use crate::operation::{AtomicOp, Exchange, Reply};
-use crate::rt::object::Object;
+use crate::rt::object::{Object, of_kind};
 use crate::rt::run::{Entry, Loading, Resumed};
 use crate::rt::scene::Scene;
 use crate::rt::thread::Task;
@@ -40,10 +40,7 @@ impl<D> Object<D> {
         ensures* writes_back { sem 𝓛 (lends_kind D.row (atomic_row.the_row) Object.Atomic self.entry result) }
         ensures value { now_of result ≡ lookup.atomic_in self.old }
     {
-        match self {
-            Object::Atomic(atomic) if !atomic.is_taken => Ok(atomic),
-            _ => Err(FailureKind::Misuse),
-        }
+        of_kind!(self, Atomic(atomic) if !atomic.is_taken)
     }
 }
 
@@ -52,10 +49,7 @@ impl<D: Drop> Scene<D> {
     pub fn atomic(&self, number: usize) -> Result<&Atomic, FailureKind>
         ensures { shown_of result ≡ lookup.atomic_at number self.now.objects }
     {
-        match self.object(number)? {
-            Object::Atomic(atomic) if !atomic.is_taken => Ok(atomic),
-            _ => Err(FailureKind::Misuse),
-        }
+        of_kind!(self.object(number)?, Atomic(atomic) if !atomic.is_taken)
     }
 
     /// The atomic of this number, to change. Misuse where there is none, or it was taken apart.

@@ -10,7 +10,7 @@ ghost use Rattle.loom_objects.specs.Rules.Waker as rules;
 ghost use Rattle.loom_objects.specs.Stages.Waker as stages;
 
 use crate::operation::{AtomicWakerOp, Reply};
-use crate::rt::object::Object;
+use crate::rt::object::{Object, of_kind};
 use crate::rt::run::{Entry, Passed};
 use crate::rt::scene::Scene;
 use crate::rt::stages::{answered, pend_next};
@@ -34,10 +34,7 @@ impl<D> Object<D> {
         ensures* writes_back { sem 𝓛 (lends_kind D.row (atomic_waker_row.the_row) Object.AtomicWaker self.entry result) }
         ensures value { now_of result ≡ lookup.atomic_waker_in self.old }
     {
-        match self {
-            Object::AtomicWaker(place) => Ok(place),
-            _ => Err(FailureKind::Misuse),
-        }
+        of_kind!(self, AtomicWaker(place))
     }
 }
 
@@ -46,10 +43,7 @@ impl<D: Drop> Scene<D> {
     pub fn atomic_waker(&self, number: usize) -> Result<&AtomicWaker, FailureKind>
         ensures { shown_of result ≡ lookup.atomic_waker_at number self.now.objects }
     {
-        match self.object(number)? {
-            Object::AtomicWaker(place) => Ok(place),
-            _ => Err(FailureKind::Misuse),
-        }
+        of_kind!(self.object(number)?, AtomicWaker(place))
     }
 
     /// The place for a waker of this number, to change. Misuse where there is none.

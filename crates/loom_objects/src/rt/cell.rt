@@ -17,7 +17,7 @@ ghost use Rattle.loom_objects.specs.Scene.Stage.{Does, DoesIfOk};
 use crate::data::Data;
 use crate::operation::{CellOp, Reply};
 pub use crate::rt::lent::Lent;
-use crate::rt::object::Object;
+use crate::rt::object::{Object, of_kind};
 use crate::rt::readers::{none_reads, reads_of};
 use crate::rt::run::{Entry, copied};
 use crate::rt::scene::Scene;
@@ -105,10 +105,7 @@ impl<D> Object<D> {
         ensures* writes_back { sem 𝓛 (lends_kind D.row (cell_row.the_row D.row) Object.Cell self.entry result) }
         ensures value { now_of result ≡ lookup.cell_in self.old }
     {
-        match self {
-            Object::Cell(cell) if !cell.content.is_taken => Ok(cell),
-            _ => Err(FailureKind::Misuse),
-        }
+        of_kind!(self, Cell(cell) if !cell.content.is_taken)
     }
 }
 
@@ -117,10 +114,7 @@ impl<D: Drop> Scene<D> {
     pub fn cell(&self, number: usize) -> Result<&Cell<D>, FailureKind>
         ensures { shown_of result ≡ lookup.cell_at number self.now.objects }
     {
-        match self.object(number)? {
-            Object::Cell(cell) if !cell.content.is_taken => Ok(cell),
-            _ => Err(FailureKind::Misuse),
-        }
+        of_kind!(self.object(number)?, Cell(cell) if !cell.content.is_taken)
     }
 
     /// The cell of this number, to change. Misuse where there is none, or it was taken apart.

@@ -13,7 +13,7 @@ ghost use Rattle.loom_objects.specs.Scene.Stage.{Does, DoesIfOk};
 
 use crate::operation::{CondvarOp, Reply};
 use crate::rt::mutex::set_free;
-use crate::rt::object::Object;
+use crate::rt::object::{Object, of_kind};
 use crate::rt::run::{Entry, Passed};
 use crate::rt::scene::Scene;
 use crate::rt::thread::{Locking, State, Task, Waking};
@@ -64,10 +64,7 @@ impl<D> Object<D> {
         ensures* writes_back { sem 𝓛 (lends_kind D.row (condvar_row.the_row) Object.Condvar self.entry result) }
         ensures value { now_of result ≡ lookup.condvar_in self.old }
     {
-        match self {
-            Object::Condvar(condvar) => Ok(condvar),
-            _ => Err(FailureKind::Misuse),
-        }
+        of_kind!(self, Condvar(condvar))
     }
 }
 
@@ -76,10 +73,7 @@ impl<D: Drop> Scene<D> {
     pub fn condvar(&self, number: usize) -> Result<&Condvar, FailureKind>
         ensures { shown_of result ≡ lookup.condvar_at number self.now.objects }
     {
-        match self.object(number)? {
-            Object::Condvar(condvar) => Ok(condvar),
-            _ => Err(FailureKind::Misuse),
-        }
+        of_kind!(self.object(number)?, Condvar(condvar))
     }
 
     /// The condition variable of this number, to change. Misuse where there is none.

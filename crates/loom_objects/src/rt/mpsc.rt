@@ -14,7 +14,7 @@ ghost use Rattle.loom_objects.specs.Scene.Stage.{Does, DoesIfOk};
 ghost use Rattle.loom_objects.specs.Rules.Mpsc as rules;
 
 use crate::operation::{ChannelOp, Message, Reply, Turn};
-use crate::rt::object::Object;
+use crate::rt::object::{Object, of_kind};
 use crate::rt::run::{Entry, Passed};
 use crate::rt::scene::Scene;
 use crate::rt::thread::{Receiving, Task};
@@ -92,10 +92,7 @@ impl<D> Object<D> {
         ensures* writes_back { sem 𝓛 (lends_kind D.row (channel_row.the_row D.row) Object.Channel self.entry result) }
         ensures value { now_of result ≡ lookup.channel_in self.old }
     {
-        match self {
-            Object::Channel(channel) => Ok(channel),
-            _ => Err(FailureKind::Misuse),
-        }
+        of_kind!(self, Channel(channel))
     }
 }
 
@@ -104,10 +101,7 @@ impl<D: Drop> Scene<D> {
     pub fn channel(&self, number: usize) -> Result<&Channel<D>, FailureKind>
         ensures { shown_of result ≡ lookup.channel_at number self.now.objects }
     {
-        match self.object(number)? {
-            Object::Channel(channel) => Ok(channel),
-            _ => Err(FailureKind::Misuse),
-        }
+        of_kind!(self.object(number)?, Channel(channel))
     }
 
     /// The channel of this number, to change. Misuse where there is none.

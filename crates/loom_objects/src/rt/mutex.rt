@@ -12,7 +12,7 @@ ghost use Rattle.loom_objects.specs.Scene.Stage.{Does, DoesIfOk};
 
 use crate::operation::{MutexOp, Reply};
 pub use crate::rt::lent::Lent;
-use crate::rt::object::Object;
+use crate::rt::object::{Object, of_kind};
 use crate::rt::run::Entry;
 use crate::rt::scene::Scene;
 use crate::rt::thread::{Locking, Task};
@@ -76,10 +76,7 @@ impl<D> Object<D> {
         ensures* writes_back { sem 𝓛 (lends_kind D.row (mutex_row.the_row D.row) Object.Mutex self.entry result) }
         ensures value { now_of result ≡ lookup.mutex_in self.old }
     {
-        match self {
-            Object::Mutex(mutex) if !mutex.content.is_taken => Ok(mutex),
-            _ => Err(FailureKind::Misuse),
-        }
+        of_kind!(self, Mutex(mutex) if !mutex.content.is_taken)
     }
 }
 
@@ -88,10 +85,7 @@ impl<D: Drop> Scene<D> {
     pub fn mutex(&self, number: usize) -> Result<&Mutex<D>, FailureKind>
         ensures { shown_of result ≡ lookup.mutex_at number self.now.objects }
     {
-        match self.object(number)? {
-            Object::Mutex(mutex) if !mutex.content.is_taken => Ok(mutex),
-            _ => Err(FailureKind::Misuse),
-        }
+        of_kind!(self.object(number)?, Mutex(mutex) if !mutex.content.is_taken)
     }
 
     /// The mutex of this number, to change. Misuse where there is none, or it was taken apart.

@@ -10,7 +10,7 @@ ghost use Rattle.loom_objects.specs.Scene.Stage.{Does, DoesIfOk};
 ghost use Rattle.loom_objects.specs.Stages.Waker as stages;
 
 use crate::operation::{NotifyOp, Reply};
-use crate::rt::object::Object;
+use crate::rt::object::{Object, of_kind};
 use crate::rt::run::Entry;
 use crate::rt::scene::Scene;
 use crate::rt::thread::Task;
@@ -81,10 +81,7 @@ impl<D> Object<D> {
         ensures* writes_back { sem 𝓛 (lends_kind D.row (notify_row.the_row) Object.Notify self.entry result) }
         ensures value { now_of result ≡ lookup.notify_in self.old }
     {
-        match self {
-            Object::Notify(notify) => Ok(notify),
-            _ => Err(FailureKind::Misuse),
-        }
+        of_kind!(self, Notify(notify))
     }
 }
 
@@ -93,10 +90,7 @@ impl<D: Drop> Scene<D> {
     pub fn notify(&self, number: usize) -> Result<&Notify, FailureKind>
         ensures { shown_of result ≡ lookup.notify_at number self.now.objects }
     {
-        match self.object(number)? {
-            Object::Notify(notify) => Ok(notify),
-            _ => Err(FailureKind::Misuse),
-        }
+        of_kind!(self.object(number)?, Notify(notify))
     }
 
     /// The notifier of this number, to change. Misuse where there is none.

@@ -16,6 +16,18 @@ use crate::rt::rwlock::RwLock;
 use crate::rt::waker::Wakers;
 use loom_views::rt::failure::FailureKind;
 
+// The object, if it is of this kind and stands; any other is a misuse.
+macro_rules! of_kind {
+    ($object:expr, $kind:ident($found:ident) $(if $stands:expr)?) => {
+        match $object {
+            Object::$kind($found) $(if $stands)? => Ok($found),
+            _ => Err(FailureKind::Misuse),
+        }
+    };
+}
+
+pub(crate) use of_kind;
+
 /// An object of a run. Its number is its place in the order of creation (loom's `rt/object.rs`).
 #[derive(Drop)]
 pub enum Object<D> {

@@ -13,7 +13,7 @@ ghost use Rattle.loom_objects.specs.Stages.LockCopy.{Copies};
 use crate::data::Data;
 use crate::operation::{Reply, RwLockOp};
 pub use crate::rt::lent::Lent;
-use crate::rt::object::Object;
+use crate::rt::object::{Object, of_kind};
 use crate::rt::readers::{none_reads, reads_of};
 use crate::rt::run::Entry;
 use crate::rt::scene::Scene;
@@ -133,10 +133,7 @@ impl<D> Object<D> {
         ensures* writes_back { sem 𝓛 (lends_kind D.row (rwlock_row.the_row D.row) Object.RwLock self.entry result) }
         ensures value { now_of result ≡ lookup.rwlock_in self.old }
     {
-        match self {
-            Object::RwLock(lock) if !lock.content.is_taken => Ok(lock),
-            _ => Err(FailureKind::Misuse),
-        }
+        of_kind!(self, RwLock(lock) if !lock.content.is_taken)
     }
 }
 
@@ -145,10 +142,7 @@ impl<D: Drop> Scene<D> {
     pub fn rwlock(&self, number: usize) -> Result<&RwLock<D>, FailureKind>
         ensures { shown_of result ≡ lookup.rwlock_at number self.now.objects }
     {
-        match self.object(number)? {
-            Object::RwLock(lock) if !lock.content.is_taken => Ok(lock),
-            _ => Err(FailureKind::Misuse),
-        }
+        of_kind!(self.object(number)?, RwLock(lock) if !lock.content.is_taken)
     }
 
     /// The read-write lock of this number, to change. Misuse where there is none, or it was taken apart.

@@ -13,7 +13,7 @@ ghost use Rattle.loom_objects.specs.Stages.Waker as stages;
 use crate::operation::{Reply, WakerOp};
 use crate::rt::atomic_waker::free_place;
 use crate::rt::notify::{Notify, Spurious, notify_waiter, wait_begins};
-use crate::rt::object::Object;
+use crate::rt::object::{Object, of_kind};
 use crate::rt::run::{Entry, Passed};
 use crate::rt::scene::Scene;
 use crate::rt::stages::{answered, pend_next};
@@ -36,10 +36,7 @@ impl<D> Object<D> {
         ensures* writes_back { sem 𝓛 (lends_kind D.row (wakers_row.the_row) Object.Wakers self.entry result) }
         ensures value { now_of result ≡ lookup.wakers_in self.old }
     {
-        match self {
-            Object::Wakers(wakers) => Ok(wakers),
-            _ => Err(FailureKind::Misuse),
-        }
+        of_kind!(self, Wakers(wakers))
     }
 }
 
@@ -48,10 +45,7 @@ impl<D: Drop> Scene<D> {
     pub fn wakers(&self, number: usize) -> Result<&Wakers, FailureKind>
         ensures { shown_of result ≡ lookup.wakers_at number self.now.objects }
     {
-        match self.object(number)? {
-            Object::Wakers(wakers) => Ok(wakers),
-            _ => Err(FailureKind::Misuse),
-        }
+        of_kind!(self.object(number)?, Wakers(wakers))
     }
 
     /// The count of wakers of this number, to change. Misuse where there is none.
