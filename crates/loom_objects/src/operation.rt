@@ -27,6 +27,25 @@ use std::alloc::{AllocError, Global};
 use std::collections::LinkedList;
 use std::sync::atomic::Ordering;
 
+/// The pattern of a reply that says what was made.
+#[macro_export]
+macro_rules! made {
+    () => {
+        $crate::operation::Reply::Atomic(_)
+            | $crate::operation::Reply::Cell(_)
+            | $crate::operation::Reply::Arc(_)
+            | $crate::operation::Reply::Track(_)
+            | $crate::operation::Reply::Mutex(_)
+            | $crate::operation::Reply::RwLock(_)
+            | $crate::operation::Reply::Condvar(_)
+            | $crate::operation::Reply::Notify(_)
+            | $crate::operation::Reply::Channel(_)
+            | $crate::operation::Reply::BlockOn(_)
+            | $crate::operation::Reply::AtomicWaker(_)
+            | $crate::operation::Reply::Spawned(..)
+    };
+}
+
 // The reply with this in the place of each value. It holds no list.
 macro_rules! with_data {
     ($reply:expr, $value:ident => $data:expr) => {

@@ -3,9 +3,23 @@ use crate::text::forms::Deed;
 use crate::text::names::Value;
 use crate::text::objects::{Manner, Store};
 use crate::text::page::Page;
+use loom_objects::made;
 use loom_objects::operation::{AtomicOp, CellOp, Reply};
 use loom_views::rt::num::Numbers;
 use std::sync::atomic::Ordering;
+
+// The replies that say why there is nothing for the thread.
+macro_rules! refused {
+    () => {
+        Reply::Shared | Reply::WouldBlock | Reply::Empty | Reply::RecvError | Reply::Disconnected
+        | Reply::NoWaker | Reply::Absent | Reply::AccessError
+    };
+}
+
+// The replies that have a list of values.
+macro_rules! lists {
+    () => { Reply::Messages(_) | Reply::Locals(_) | Reply::Lazies(_) };
+}
 
 /// What is shown of a reply.
 #[derive(Clone, Copy)]
@@ -157,7 +171,9 @@ pub(crate) fn answer_of(reply: &Reply<()>) -> Answer {
         Reply::Stood(..) => Answer::Words("another value stands"),
         Reply::Thread(thread, _) => Answer::Thread(*thread),
         // what was made is shown with the operation
-        _ => Answer::Nothing,
+        made!() | lists!() => Answer::Nothing,
+        Reply::Start | Reply::Done | Reply::Exchanged(_) => Answer::Nothing,
+        Reply::Reading(..) | Reply::Writing(..) => Answer::Nothing,
     }
 }
 
@@ -204,7 +220,11 @@ pub(crate) fn order_of(op: AtomicOp, has_failed: bool) -> Ordering {
         | AtomicOp::CompareAndSwap(_, _, _, order) => order,
         AtomicOp::CompareExchange(_, exchange) if has_failed => exchange.failure,
         AtomicOp::CompareExchange(_, exchange) => exchange.success,
-        _ => Ordering::Relaxed,
+        AtomicOp::New(..)
+        | AtomicOp::UnsyncLoad(_)
+        | AtomicOp::IntoInner(_)
+        | AtomicOp::WithMut(_)
+        | AtomicOp::WithMutEnd(..) => Ordering::Relaxed,
     }
 }
 
@@ -231,7 +251,11 @@ pub(crate) fn cell_touch(op: &CellOp<()>) -> Option<(usize, Manner)> {
         CellOp::Write(cell) | CellOp::Replace(cell, _) | CellOp::Swap(cell, _) => {
             Some((*cell, Manner::CellWrite))
         }
-        _ => None,
+        CellOp::New(_)
+        | CellOp::ReadEnd(_)
+        | CellOp::Deref(_)
+        | CellOp::WriteEnd(..)
+        | CellOp::IntoInner(_) => None,
     }
 }
 
@@ -244,7 +268,10 @@ pub(crate) fn taken_by(reply: &Reply<()>) -> Option<usize> {
         | Reply::WriteLocked(number, _)
         | Reply::Reading(number, _)
         | Reply::Writing(number, _) => Some(*number),
-        _ => None,
+        made!() | refused!() | lists!() => None,
+        Reply::Start | Reply::Done | Reply::Value(_) | Reply::Exchanged(_) => None,
+        Reply::Data(_) | Reply::SendError(_) | Reply::Stood(..) => None,
+        Reply::Waker(_) | Reply::Thread(..) => None,
     }
 }
 
@@ -271,6 +298,8 @@ pub(crate) fn data_told<D>(reply: &Reply<D>) -> Option<&D> {
         | Reply::WriteLocked(_, value)
         | Reply::SendError(value)
         | Reply::Stood(value, _) => Some(value),
-        _ => None,
+        made!() | refused!() | lists!() => None,
+        Reply::Start | Reply::Done | Reply::Value(_) | Reply::Exchanged(_) => None,
+        Reply::Waker(_) | Reply::Thread(..) => None,
     }
 }

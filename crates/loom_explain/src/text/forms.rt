@@ -128,6 +128,18 @@ pub(crate) enum Kind {
     AtomicWaker,
 }
 
+/// What is made with an object.
+#[derive(Clone, Copy)]
+pub(crate) enum Beside {
+    Nothing,
+    /// The first store of an atomic.
+    Store,
+    /// The thread that is joined by it.
+    Thread,
+    /// The notifier that a future's wakers wake.
+    Notifier,
+}
+
 /// What an operation is on, by which its text begins.
 #[derive(Clone, Copy)]
 pub(crate) enum On {
@@ -245,7 +257,34 @@ impl Kind {
     pub(crate) fn first_count(self) -> usize {
         match self {
             Kind::Atomic(_) | Kind::Arc | Kind::Track | Kind::Wakers => 1,
-            _ => 0,
+            Kind::Cell
+            | Kind::Mutex
+            | Kind::RwLock
+            | Kind::Condvar
+            | Kind::Notify
+            | Kind::Joining
+            | Kind::Channel
+            | Kind::Waking
+            | Kind::AtomicWaker => 0,
+        }
+    }
+
+    /// What is made with it.
+    pub(crate) fn beside(self) -> Beside {
+        match self {
+            Kind::Atomic(_) => Beside::Store,
+            Kind::Joining => Beside::Thread,
+            Kind::Wakers => Beside::Notifier,
+            Kind::Cell
+            | Kind::Arc
+            | Kind::Track
+            | Kind::Mutex
+            | Kind::RwLock
+            | Kind::Condvar
+            | Kind::Notify
+            | Kind::Channel
+            | Kind::Waking
+            | Kind::AtomicWaker => Beside::Nothing,
         }
     }
 

@@ -2,7 +2,7 @@
 use crate::text::answers::{
     Answer, answer_of, cell_touch, has_failed, is_done, order_of, outcome_of, taken_by, touch_of,
 };
-use crate::text::forms::{Call, Deed, Kind, call_of};
+use crate::text::forms::{Beside, Call, Deed, Kind, call_of};
 use crate::text::names::Thing;
 use crate::text::objects::{Access, At, Hold, Manner, Member, Object, Reading, Store};
 use loom_objects::label::Label;
@@ -114,11 +114,11 @@ impl World {
 
     fn make(&mut self, at: At, kind: Kind, op: &Op<(), ()>) {
         let number = self.objects.len();
-        match kind {
-            Kind::Wakers => self.make_object(at, Kind::Waking, None),
-            Kind::Joining => self.make_thread(spawned_name(&op.request)),
-            Kind::Atomic(_) => self.make_store(at, number, 0, None),
-            _ => {}
+        match kind.beside() {
+            Beside::Nothing => {}
+            Beside::Store => self.make_store(at, number, 0, None),
+            Beside::Thread => self.make_thread(spawned_name(&op.request)),
+            Beside::Notifier => self.make_object(at, Kind::Waking, None),
         }
         self.make_object(at, kind, op.label);
     }

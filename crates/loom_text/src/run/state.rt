@@ -4,11 +4,24 @@ ghost use Rattle.loom_text.specs.Run.State.{answer, at_first, behind, held, kept
 
 use crate::run::code::{Instruction, Operand};
 use crate::run::values::Values;
+use loom_objects::made;
 use loom_objects::operation::Reply;
 use loom_views::rt::num::Numeric;
 use loom_views::same::Same;
 use std::alloc::{AllocError, Global};
 use std::marker::Model;
+
+// The replies that leave nothing in a register.
+macro_rules! unkept {
+    () => {
+        made!() | Reply::Start | Reply::Done | Reply::Reading(..) | Reply::Writing(..)
+        | Reply::Shared | Reply::Waited(..) | Reply::ReadLocked(..) | Reply::WriteLocked(..)
+        | Reply::Empty | Reply::RecvError | Reply::Disconnected | Reply::SendError(_)
+        | Reply::Messages(_) | Reply::Waker(_) | Reply::NoWaker | Reply::Absent
+        | Reply::AccessError | Reply::Stood(..) | Reply::Locals(_) | Reply::Lazies(_)
+        | Reply::Thread(..)
+    };
+}
 
 /// How far a thread is, and what its registers hold.
 #[derive(Drop)]
@@ -111,7 +124,7 @@ impl State {
             Reply::Data(values) => put_all(registers, self.keep, values.as_slice()),
             Reply::Locked(..) => put_all(registers, self.keep, &[0]),
             Reply::WouldBlock => put_all(registers, self.keep, &[1]),
-            _ => {}
+            unkept!() => {}
         }
     }
 

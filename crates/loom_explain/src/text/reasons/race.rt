@@ -34,7 +34,13 @@ fn cell_targets(op: &CellOp<()>) -> Option<(usize, usize, Manner)> {
         CellOp::ReadEnd(cell) => (*cell, *cell, Manner::CellRead),
         CellOp::WriteEnd(cell, _) => (*cell, *cell, Manner::CellWrite),
         CellOp::Swap(cell, other) => (*cell, *other, Manner::CellWrite),
-        _ => {
+        CellOp::New(_)
+        | CellOp::Read(_)
+        | CellOp::Deref(_)
+        | CellOp::Write(_)
+        | CellOp::IntoInner(_)
+        | CellOp::Get(_)
+        | CellOp::Replace(..) => {
             let (cell, manner) = cell_touch(op)?;
             (cell, cell, manner)
         }
