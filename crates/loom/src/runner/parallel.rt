@@ -38,6 +38,7 @@ use std::alloc::Global;
 use std::rt::Clock as HostTime;
 use std::sync::Wait;
 use std::thread::Threads;
+use std::time::Duration;
 
 /// How a search is shared out (own).
 #[derive(Clone, Copy, Debug)]
@@ -47,6 +48,24 @@ pub struct Workers {
     /// How long each of them is worked on at a time, by a clock that begins then. Where its time is limited that is less once nothing is
     /// left of one of them, and where there are fewer parts than workers.
     pub slice: Slice,
+}
+
+// How long a worker works on a part at a time, unless it is said.
+const SLICE_MILLIS: u64 = 200;
+
+impl Workers {
+    /// So many workers, each of which works on a part for 200 milliseconds at a time (own).
+    pub fn new(count: usize) -> Workers
+        ensures { result.count ≡ count }
+    {
+        Workers {
+            count,
+            slice: Slice {
+                runs: u64::MAX,
+                until: Some(Duration::from_millis(SLICE_MILLIS)),
+            },
+        }
+    }
 }
 
 /// What a check by several workers found. `runs` counts the runs that ended without a failure (own).

@@ -18,7 +18,6 @@ use crate::words::options::{Asked, Shows};
 use crate::words::table::{Line, TableLine};
 use loom::model::builder::Builder;
 use loom::model::error::CheckError;
-use loom::model::parts::Slice;
 use loom::model::{Replay, Walk, Walked};
 use loom::runner::{Host, Workers};
 use loom::{Choice, HostClock, ShownChoices};
@@ -26,7 +25,6 @@ use std::alloc::Global;
 use std::fs::File;
 use std::io::{self, Read, Write};
 use std::rt::{Clock, Files};
-use std::time::Duration;
 
 /// What is done with each test.
 #[derive(Clone, Copy)]
@@ -45,9 +43,6 @@ pub(crate) enum Job<'a> {
 
 // Above so many runs it is said that there is a way to make fewer.
 const MANY_RUNS: u64 = 1_000_000;
-
-// A worker works on a part for so long at a time at most.
-const SLICE_MILLIS: u64 = 200;
 
 /// Does this with the test in the file, prints what comes of it, and answers the exit status: 0 where it holds, 1 where it
 /// doesn't, and 2 where the file can't be read, is no test, or can't be checked so.
@@ -104,7 +99,7 @@ pub(crate) fn judge_test<R: Host + Clock + Sync, O: Write, E: Write>(
     let answered = match job {
         Job::Check => check_test(rt, asked, None, file, test, &layout, &main, out, err)?,
         Job::Share(count) => {
-            let workers = Some(timed_workers(count));
+            let workers = Some(Workers::new(count));
             check_test(rt, asked, workers, file, test, &layout, &main, out, err)?
         }
         Job::Cover(most) => cover_test(rt, asked, most, file, test, &layout, &main, out)?,
@@ -178,17 +173,6 @@ fn find<R: Host + Clock + Sync, H: Counting>(
         Some(workers) => check_by(
             rt, alloc, builder, test, layout, main, workers, &mut clock, counting,
         ),
-    }
-}
-
-// So many workers, each with some time for a part.
-fn timed_workers(count: usize) -> Workers {
-    Workers {
-        count,
-        slice: Slice {
-            runs: u64::MAX,
-            until: Some(Duration::from_millis(SLICE_MILLIS)),
-        },
     }
 }
 
