@@ -38,18 +38,12 @@ pub fn named(label: Option<Label>, name: Text) -> Option<Label>
 pub fn name_in(label: Option<Label>) -> Option<Text>
     ensures { result ≡ rules.name_in label }
 {
-    match label {
-        Some(label) => label.name,
-        None => None,
-    }
+    label?.name
 }
 
 /// The place that the label has, if any.
 pub fn location_in(label: Option<Label>) -> Option<Location>
     ensures { result ≡ rules.location_in label }
 {
-    match label {
-        Some(label) => label.location,
-        None => None,
-    }
+    label?.location
 }

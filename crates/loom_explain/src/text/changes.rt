@@ -83,10 +83,7 @@ fn put_change(
     now: &Request<(), ()>,
     earlier: Earlier,
 ) {
-    let name = match world.threads.get(thread) {
-        Some(member) => member.name,
-        None => None,
-    };
+    let name = world.threads.get(thread).and_then(|member| member.name);
     page.bits("run ", run);
     page.titled(": ", thread, name);
     page.call(" hands over `", now, world);

@@ -60,10 +60,8 @@ fn fewest(standings: &[(Ability, u64); MAX_THREADS]) -> Option<u8>
     for place in 0..MAX_THREADS {
         best = better(best, place as u8, standings[place]);
     }
-    match best {
-        Some((thread, _)) => Some(thread),
-        None => None,
-    }
+    let (thread, _) = best?;
+    Some(thread)
 }
 
 /// The place of the first thread that has yielded.
@@ -86,10 +84,7 @@ pub fn default_thread(active: u8, standings: &[(Ability, u64); MAX_THREADS]) -> 
     if let Some(thread) = fewest(standings) {
         return Some(thread);
     }
-    match yielding_place(standings) {
-        Some(thread) => Some(thread as u8),
-        None => None,
-    }
+    Some(yielding_place(standings)? as u8)
 }
 
 /// What the threads of a run offer to a schedule.

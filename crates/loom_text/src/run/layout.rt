@@ -102,19 +102,20 @@ impl Test {
 
     /// The name of the register or of the location. Where there is none it is empty.
     pub(crate) fn name_of(&self, term: Term) -> &str {
-        let name = match term {
-            Term::Register { thread, register } => match self.threads.get(thread) {
-                Some(thread) => thread.registers.get(register),
-                None => None,
-            },
-            Term::Location(location) => match self.locations.get(location) {
-                Some(location) => Some(&location.name),
-                None => None,
-            },
-        };
-        match name {
+        match self.found_name(term) {
             Some(name) => name.as_str(),
             None => "",
+        }
+    }
+
+    fn found_name(&self, term: Term) -> Option<&String> {
+        match term {
+            Term::Register { thread, register } => self
+                .threads
+                .get(thread)?
+                .registers
+                .get(register),
+            Term::Location(location) => Some(&self.locations.get(location)?.name),
         }
     }
 

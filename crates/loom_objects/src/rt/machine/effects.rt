@@ -171,10 +171,8 @@ fn use_as(object: usize, action: Action) -> Use
 fn access_use(access: AtomicOp) -> Option<Use>
     ensures { result ≡ option_map (uses.used (uses.atomic_action access)) (accessed access) }
 {
-    match access.atomic() {
-        Some(object) => Some(use_as(object, atomic_action(access))),
-        None => None,
-    }
+    let object = access.atomic()?;
+    Some(use_as(object, atomic_action(access)))
 }
 
 impl<D> Task<D> {

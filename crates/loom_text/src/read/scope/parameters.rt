@@ -47,10 +47,8 @@ impl<'a> Scope<'a> {
     pub(crate) fn plain_of(&self, token: Token<'_>) -> Option<usize>
         ensures { result ≡ number_of Kind.Plain (parameter_in (known self.now).locations token.entry.spelling.now) }
     {
-        match self.parameter_of(token) {
-            Some((number, kind)) => (kind == Kind::Plain).then_some(number),
-            None => None,
-        }
+        let (number, kind) = self.parameter_of(token)?;
+        (kind == Kind::Plain).then_some(number)
     }
 
     /// Whether the test has a location of this name.
