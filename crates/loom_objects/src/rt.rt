@@ -9,6 +9,7 @@ pub mod cell;
 pub mod condvar;
 pub mod dependence;
 pub mod exploring;
+pub mod kept;
 pub mod leaks;
 pub mod lent;
 pub mod locals;

@@ -1,8 +1,4 @@
 //! States that a search remembers: copies of where runs stood at branch points, with which later runs are compared.
-pub mod kept;
-pub(crate) mod objects;
-pub(crate) mod tasks;
-pub(crate) mod threads;
 pub mod ways;
 
 ghost use Rattle.std.specs.Prelude.{◌≡◌, [], IfOk, IfSome, IsTrue, ◌++◌, Bool, List, length, slice_get, Some};
@@ -17,11 +13,11 @@ ghost use Rattle.loom_engine.specs.Walk.Path.{Stored};
 
 use crate::rt::execution::Execution;
 use crate::rt::path::Path;
-use crate::rt::states::kept::{are_equal, copied_all};
 use loom_objects::body::Body;
 use loom_objects::choice::Choice;
 use loom_objects::data::Data;
 use loom_objects::operation::Lazy;
+use loom_objects::rt::kept::{are_equal, copied_all};
 use loom_objects::rt::object::Object;
 use loom_objects::rt::scene::Scene;
 use loom_objects::rt::schedule::{Yields, no_yields};

@@ -12,13 +12,15 @@ ghost use Rattle.loom_objects.specs.Scene.Stage.{Does, DoesIfOk};
 
 use crate::data::Data;
 use crate::operation::{Reply, TrackOp};
+use crate::rt::kept::Kept;
 pub use crate::rt::lent::Lent;
 use crate::rt::object::{Object, of_kind};
 use crate::rt::run::{Entry, copied};
 use crate::rt::scene::Scene;
 use crate::rt::stages::memory_outside;
 use loom_views::rt::failure::FailureKind;
-use std::alloc::AllocError;
+use loom_views::same::Same;
+use std::alloc::{AllocError, Global};
 
 /// A value that is to be given back before the run ends (loom's `rt/alloc.rs`).
 #[derive(Drop)]
@@ -128,4 +130,16 @@ fn track_take<D: Drop>(scene: &mut Scene<D>, number: usize) -> Result<Entry<D>, 
     let track = scene.track_mut(number)?;
     let value = track.content.take_apart().ok_or(FailureKind::Misuse)?;
     Ok(Entry::Answered(Reply::Data(value)))
+}
+
+impl<D: Data + Same> Kept for Track<D> {
+    fn copied(&self, alloc: Global) -> Result<Track<D>, AllocError> {
+        Ok(Track {
+            content: self.content.copied(alloc)?,
+        })
+    }
+
+    fn is_equal(&self, other: &Track<D>) -> bool {
+        self.content.is_equal(&other.content)
+    }
 }

@@ -13,6 +13,7 @@ ghost use Rattle.loom_objects.specs.Scene.Stage.{Does, DoesIfOk};
 
 use crate::data::Data;
 use crate::operation::{ArcOp, Reply, Turn};
+use crate::rt::kept::Kept;
 pub use crate::rt::lent::Lent;
 use crate::rt::object::{Object, of_kind};
 use crate::rt::run::{Entry, Passed, copied};
@@ -20,7 +21,8 @@ use crate::rt::scene::Scene;
 use crate::rt::stages::memory_outside;
 use crate::rt::thread::{Counting, Task};
 use loom_views::rt::failure::FailureKind;
-use std::alloc::AllocError;
+use loom_views::same::Same;
+use std::alloc::{AllocError, Global};
 
 /// A counted reference (loom's `rt/arc.rs`).
 #[derive(Drop)]
@@ -316,4 +318,17 @@ pub fn try_unwrap<D: Drop>(scene: &mut Scene<D>, number: usize) -> Result<Passed
         return Ok(Passed::Turn(Turn::Reply(scene.active(), Reply::Shared)));
     }
     Ok(pend_unwrap(scene, number))
+}
+
+impl<D: Data + Same> Kept for Arc<D> {
+    fn copied(&self, alloc: Global) -> Result<Arc<D>, AllocError> {
+        Ok(Arc {
+            count: self.count,
+            content: self.content.copied(alloc)?,
+        })
+    }
+
+    fn is_equal(&self, other: &Arc<D>) -> bool {
+        self.count == other.count && self.content.is_equal(&other.content)
+    }
 }

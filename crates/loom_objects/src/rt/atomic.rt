@@ -12,6 +12,7 @@ ghost use Rattle.loom_views.specs.Views.{Points, ShowsViews, IsSlotKept, points_
 ghost use Rattle.loom_objects.specs.Operation.Accessed.{accessed};
 
 use crate::operation::{AtomicOp, Exchange, Reply};
+use crate::rt::kept::Kept;
 use crate::rt::object::{Object, of_kind};
 use crate::rt::run::{Entry, Loading, Resumed};
 use crate::rt::scene::Scene;
@@ -20,7 +21,8 @@ use loom_views::rt::atomic::reader::Reader;
 use loom_views::rt::failure::FailureKind;
 use loom_views::rt::num::Numbers;
 use loom_views::rt::num::change::Change;
-use std::alloc::AllocError;
+use loom_views::same::Same;
+use std::alloc::{AllocError, Global};
 use std::sync::atomic::Ordering;
 
 /// An atomic, whose stores are kept with the views (loom's `rt/atomic.rs`).
@@ -369,4 +371,16 @@ fn exchange<D: Drop>(
     let new = numbers.fit(exchange.new);
     scene.update_write(number, slot, new, exchange.success)?;
     Ok(Ok(read))
+}
+
+impl Kept for Atomic {
+    fn copied(&self, _alloc: Global) -> Result<Atomic, AllocError> {
+        Ok(*self)
+    }
+
+    fn is_equal(&self, other: &Atomic) -> bool {
+        self.numbers == other.numbers
+            && self.is_taken == other.is_taken
+            && self.opened.is_same(&other.opened)
+    }
 }

@@ -10,6 +10,7 @@ ghost use Rattle.loom_objects.specs.Rules.Waker as rules;
 ghost use Rattle.loom_objects.specs.Stages.Waker as stages;
 
 use crate::operation::{AtomicWakerOp, Reply};
+use crate::rt::kept::Kept;
 use crate::rt::object::{Object, of_kind};
 use crate::rt::run::{Entry, Passed};
 use crate::rt::scene::Scene;
@@ -17,7 +18,8 @@ use crate::rt::stages::{answered, pend_next};
 use crate::rt::thread::{AfterDrop, AfterWake, Taking, Task};
 use crate::rt::waker::{some_wakers, waker_pends};
 use loom_views::rt::failure::FailureKind;
-use std::alloc::AllocError;
+use loom_views::same::Same;
+use std::alloc::{AllocError, Global};
 
 /// A place for a waker, and the lock round it (loom's `future/atomic_waker.rs`).
 #[derive(Clone, Copy)]
@@ -261,5 +263,15 @@ fn has_taken<D: Drop>(
             let after = AfterWake::Drop(AfterDrop::Done);
             Ok(pend_next(scene, Task::WakeBy(notifier, number, after)))
         }
+    }
+}
+
+impl Kept for AtomicWaker {
+    fn copied(&self, _alloc: Global) -> Result<AtomicWaker, AllocError> {
+        Ok(*self)
+    }
+
+    fn is_equal(&self, other: &AtomicWaker) -> bool {
+        self.holder.is_same(&other.holder) && self.waker.is_same(&other.waker)
     }
 }

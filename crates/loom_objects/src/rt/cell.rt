@@ -16,15 +16,17 @@ ghost use Rattle.loom_objects.specs.Scene.Stage.{Does, DoesIfOk};
 
 use crate::data::Data;
 use crate::operation::{CellOp, Reply};
+use crate::rt::kept::Kept;
 pub use crate::rt::lent::Lent;
 use crate::rt::object::{Object, of_kind};
-use crate::rt::readers::{none_reads, reads_of};
+use crate::rt::readers::{copied_counts, none_reads, reads_of};
 use crate::rt::run::{Entry, copied};
 use crate::rt::scene::Scene;
 use crate::rt::stages::memory_outside;
 use loom_views::rt::MAX_THREADS;
 use loom_views::rt::failure::FailureKind;
-use std::alloc::AllocError;
+use loom_views::same::{Same, are_same};
+use std::alloc::{AllocError, Global};
 use std::mem;
 
 /// A cell (loom's `rt/cell.rs`).
@@ -402,4 +404,18 @@ fn cell_read_end<D: Drop>(scene: &mut Scene<D>, number: usize) -> Result<Entry<D
     scene.read_cell(number)?;
     keep_reads(scene, number, reader, count - 1)?;
     Ok(Entry::Answered(Reply::Done))
+}
+
+impl<D: Data + Same> Kept for Cell<D> {
+    fn copied(&self, alloc: Global) -> Result<Cell<D>, AllocError> {
+        Ok(Cell {
+            content: self.content.copied(alloc)?,
+            readers: copied_counts(&self.readers),
+        })
+    }
+
+    fn is_equal(&self, other: &Cell<D>) -> bool {
+        are_same(self.readers.as_slice(), other.readers.as_slice())
+            && self.content.is_equal(&other.content)
+    }
 }

@@ -12,6 +12,7 @@ ghost use Rattle.loom_objects.specs.Scene.Lookup.{mutex_at};
 ghost use Rattle.loom_objects.specs.Scene.Stage.{Does, DoesIfOk};
 
 use crate::operation::{CondvarOp, Reply};
+use crate::rt::kept::Kept;
 use crate::rt::mutex::set_free;
 use crate::rt::object::{Object, of_kind};
 use crate::rt::run::{Entry, Passed};
@@ -20,7 +21,8 @@ use crate::rt::thread::{Locking, State, Task, Waking};
 use arrayvec::ArrayVec;
 use loom_views::rt::MAX_THREADS;
 use loom_views::rt::failure::FailureKind;
-use std::alloc::AllocError;
+use loom_views::same::are_same;
+use std::alloc::{AllocError, Global};
 use std::mem;
 
 /// A condition variable (loom's `rt/condvar.rs`).
@@ -225,4 +227,28 @@ pub fn fall_asleep<D: Drop>(
     set_free(scene, mutex, value)?;
     sleep(scene, locking, mutex);
     Ok(Passed::AtBranch)
+}
+
+impl Kept for Condvar {
+    fn copied(&self, _alloc: Global) -> Result<Condvar, AllocError> {
+        copied_condvar(self)
+    }
+
+    fn is_equal(&self, other: &Condvar) -> bool {
+        are_same(self.waiters.as_slice(), other.waiters.as_slice())
+    }
+}
+
+fn copied_condvar(condvar: &Condvar) -> Result<Condvar, AllocError>
+    ensures { IfOk result (λ copy. copy ≡ condvar.now) }
+{
+    let mut copy = Condvar {
+        waiters: ArrayVec::new(),
+    };
+    for waiter in condvar.waiters.as_slice() {
+        if !copy.enter(*waiter) {
+            return Err(AllocError);
+        }
+    }
+    Ok(copy)
 }

@@ -3,6 +3,11 @@ ghost use Rattle.loom_objects.specs.Lent as lending;
 ghost use Rattle.loom_objects.specs.Lent.{is_number};
 ghost use Rattle.std.specs.Prelude.{false, option_copied, ◌≡◌, OnSome, IfNone, true};
 
+use crate::data::Data;
+use crate::rt::kept::{Kept, copied_value};
+use loom_views::same::Same;
+use std::alloc::{AllocError, Global};
+
 /// Data that an object hands out and takes back.
 #[derive(Drop)]
 pub struct Lent<D> {
@@ -83,5 +88,21 @@ impl<D: Drop> Lent<D> {
         let value = self.take()?;
         self.is_taken = true;
         Some(value)
+    }
+}
+
+impl<D: Data + Same> Kept for Lent<D> {
+    fn copied(&self, _alloc: Global) -> Result<Lent<D>, AllocError> {
+        Ok(Lent {
+            value: copied_value(&self.value)?,
+            lent: self.lent,
+            is_taken: self.is_taken,
+        })
+    }
+
+    fn is_equal(&self, other: &Lent<D>) -> bool {
+        self.value.is_same(&other.value)
+            && self.lent.is_same(&other.lent)
+            && self.is_taken == other.is_taken
     }
 }

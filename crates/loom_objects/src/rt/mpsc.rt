@@ -13,13 +13,16 @@ ghost use Rattle.loom_objects.specs.Stages.Mpsc as stages;
 ghost use Rattle.loom_objects.specs.Scene.Stage.{Does, DoesIfOk};
 ghost use Rattle.loom_objects.specs.Rules.Mpsc as rules;
 
+use crate::data::Data;
 use crate::operation::{ChannelOp, Message, Reply, Turn};
+use crate::rt::kept::{Kept, are_messages_equal, copied_messages};
 use crate::rt::object::{Object, of_kind};
 use crate::rt::run::{Entry, Passed};
 use crate::rt::scene::Scene;
 use crate::rt::thread::{Receiving, Task};
 use loom_views::rt::failure::FailureKind;
-use std::alloc::AllocError;
+use loom_views::same::Same;
+use std::alloc::{AllocError, Global};
 use std::collections::LinkedList;
 
 /// A channel (loom's `rt/mpsc.rs`).
@@ -406,4 +409,20 @@ fn go_on<D: Drop>(
     }
     scene.pend(Task::Drain(number, taken), false);
     Ok(Passed::AtBranch)
+}
+
+impl<D: Data + Same> Kept for Channel<D> {
+    fn copied(&self, alloc: Global) -> Result<Channel<D>, AllocError> {
+        Ok(Channel {
+            senders: self.senders,
+            has_receiver: self.has_receiver,
+            messages: copied_messages(alloc, &self.messages)?,
+        })
+    }
+
+    fn is_equal(&self, other: &Channel<D>) -> bool {
+        self.senders == other.senders
+            && self.has_receiver == other.has_receiver
+            && are_messages_equal(&self.messages, &other.messages)
+    }
 }

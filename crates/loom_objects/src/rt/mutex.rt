@@ -10,14 +10,17 @@ ghost use Rattle.std.specs.Prelude.{◌≡◌, OnSome, IfNone, None, Some, IfOk,
 ghost use Rattle.loom_objects.specs.Rules.Mutex as rules;
 ghost use Rattle.loom_objects.specs.Scene.Stage.{Does, DoesIfOk};
 
+use crate::data::Data;
 use crate::operation::{MutexOp, Reply};
+use crate::rt::kept::Kept;
 pub use crate::rt::lent::Lent;
 use crate::rt::object::{Object, of_kind};
 use crate::rt::run::Entry;
 use crate::rt::scene::Scene;
 use crate::rt::thread::{Locking, Task};
 use loom_views::rt::failure::FailureKind;
-use std::alloc::AllocError;
+use loom_views::same::Same;
+use std::alloc::{AllocError, Global};
 
 /// A mutex (loom's `rt/mutex.rs`).
 #[derive(Drop)]
@@ -248,4 +251,17 @@ fn mutex_into_inner<D: Drop>(scene: &mut Scene<D>, number: usize) -> Result<Entr
     let mutex = scene.mutex_mut(number)?;
     let value = mutex.take_apart().ok_or(FailureKind::Misuse)?;
     Ok(Entry::Answered(Reply::Data(value)))
+}
+
+impl<D: Data + Same> Kept for Mutex<D> {
+    fn copied(&self, alloc: Global) -> Result<Mutex<D>, AllocError> {
+        Ok(Mutex {
+            holder: self.holder,
+            content: self.content.copied(alloc)?,
+        })
+    }
+
+    fn is_equal(&self, other: &Mutex<D>) -> bool {
+        self.holder.is_same(&other.holder) && self.content.is_equal(&other.content)
+    }
 }

@@ -4,19 +4,21 @@ ghost use Rattle.loom_objects.specs.Scene.Lends.{lends_in_scene, lends_kind};
 ghost use Rattle.loom_objects.specs.Scene.Lookup.{now_of, shown_of};
 ghost use Rattle.loom_objects.specs.Scene.Lookup as lookup;
 ghost use Rattle.loom_objects.specs.contracts.rt.notify.Notify as notify_row;
-ghost use Rattle.std.specs.Prelude.{◌≡◌, IfOk, OnErr, true};
+ghost use Rattle.std.specs.Prelude.{◌≡◌, IfOk, OnErr, true, IsTrue};
 ghost use Rattle.loom_objects.specs.Rules.Notify as rules;
 ghost use Rattle.loom_objects.specs.Scene.Stage.{Does, DoesIfOk};
 ghost use Rattle.loom_objects.specs.Stages.Waker as stages;
 
 use crate::operation::{NotifyOp, Reply};
+use crate::rt::kept::{Kept, is_kind};
 use crate::rt::object::{Object, of_kind};
 use crate::rt::run::Entry;
 use crate::rt::scene::Scene;
 use crate::rt::thread::Task;
 use crate::rt::waker::some_wakers;
 use loom_views::rt::failure::FailureKind;
-use std::alloc::AllocError;
+use loom_views::same::Same;
+use std::alloc::{AllocError, Global};
 
 /// Whether a thread has woken from a notifier without a notification (loom's `rt/notify.rs`).
 #[derive(Clone, Copy)]
@@ -240,4 +242,28 @@ pub fn await_notified<D: Drop>(scene: &mut Scene<D>, number: usize) -> Result<Re
     notify.waiter = None;
     scene.acquire(number);
     Ok(Reply::Done)
+}
+
+impl Kept for Notify {
+    fn copied(&self, _alloc: Global) -> Result<Notify, AllocError> {
+        Ok(*self)
+    }
+
+    fn is_equal(&self, other: &Notify) -> bool {
+        self.notified == other.notified
+            && self.waiter.is_same(&other.waiter)
+            && is_spurious_equal(self.spurious, other.spurious)
+            && self.wakers.is_same(&other.wakers)
+    }
+}
+
+fn is_spurious_equal(one: Spurious, other: Spurious) -> bool
+    ensures { IsTrue result → one ≡ other }
+{
+    match one {
+        Spurious::Never => matches!(other, Spurious::Never),
+        Spurious::NotYet => matches!(other, Spurious::NotYet),
+        Spurious::Waking(a) => is_kind!(other, Spurious::Waking(x) => a == x),
+        Spurious::Over => matches!(other, Spurious::Over),
+    }
 }

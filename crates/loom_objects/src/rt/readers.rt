@@ -21,3 +21,11 @@ pub(crate) fn none_reads(readers: &[u64; MAX_THREADS]) -> bool
 {
     readers.iter().all(|count| *count == 0)
 }
+
+/// The counts again.
+pub(crate) fn copied_counts(counts: &[u64; MAX_THREADS]) -> [u64; MAX_THREADS]
+    ensures { result ≡ counts.now }
+{
+    let [main, first, second, third, fourth] = counts;
+    [*main, *first, *second, *third, *fourth]
+}

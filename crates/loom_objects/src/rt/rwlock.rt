@@ -12,15 +12,17 @@ ghost use Rattle.loom_objects.specs.Stages.LockCopy.{Copies};
 
 use crate::data::Data;
 use crate::operation::{Reply, RwLockOp};
+use crate::rt::kept::Kept;
 pub use crate::rt::lent::Lent;
 use crate::rt::object::{Object, of_kind};
-use crate::rt::readers::{none_reads, reads_of};
+use crate::rt::readers::{copied_counts, none_reads, reads_of};
 use crate::rt::run::Entry;
 use crate::rt::scene::Scene;
 use crate::rt::thread::{Claim, Task};
 use loom_views::rt::MAX_THREADS;
 use loom_views::rt::failure::FailureKind;
-use std::alloc::AllocError;
+use loom_views::same::{Same, are_same};
+use std::alloc::{AllocError, Global};
 
 /// A read-write lock (loom's `rt/rwlock.rs`).
 #[derive(Drop)]
@@ -389,4 +391,20 @@ fn rwlock_into_inner<D: Drop>(scene: &mut Scene<D>, number: usize) -> Result<Ent
     let lock = scene.rwlock_mut(number)?;
     let value = lock.take_apart().ok_or(FailureKind::Misuse)?;
     Ok(Entry::Answered(Reply::Data(value)))
+}
+
+impl<D: Data + Same> Kept for RwLock<D> {
+    fn copied(&self, alloc: Global) -> Result<RwLock<D>, AllocError> {
+        Ok(RwLock {
+            content: self.content.copied(alloc)?,
+            readers: copied_counts(&self.readers),
+            writer: self.writer,
+        })
+    }
+
+    fn is_equal(&self, other: &RwLock<D>) -> bool {
+        self.writer.is_same(&other.writer)
+            && are_same(self.readers.as_slice(), other.readers.as_slice())
+            && self.content.is_equal(&other.content)
+    }
 }

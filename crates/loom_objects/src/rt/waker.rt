@@ -12,6 +12,7 @@ ghost use Rattle.loom_objects.specs.Stages.Waker as stages;
 
 use crate::operation::{Reply, WakerOp};
 use crate::rt::atomic_waker::free_place;
+use crate::rt::kept::Kept;
 use crate::rt::notify::{Notify, Spurious, notify_waiter, wait_begins};
 use crate::rt::object::{Object, of_kind};
 use crate::rt::run::{Entry, Passed};
@@ -19,7 +20,7 @@ use crate::rt::scene::Scene;
 use crate::rt::stages::{answered, pend_next};
 use crate::rt::thread::{AfterDrop, AfterWake, Task};
 use loom_views::rt::failure::FailureKind;
-use std::alloc::AllocError;
+use std::alloc::{AllocError, Global};
 
 /// How many wakers of a future there are (loom's `future/mod.rs`, where an `Arc` counts them).
 #[derive(Clone, Copy)]
@@ -247,5 +248,15 @@ fn after_drop<D: Drop>(scene: &mut Scene<D>, after: AfterDrop) -> Result<Passed<
             free_place(scene, number, place)?;
             Ok(answered(scene, Reply::Done))
         }
+    }
+}
+
+impl Kept for Wakers {
+    fn copied(&self, _alloc: Global) -> Result<Wakers, AllocError> {
+        Ok(*self)
+    }
+
+    fn is_equal(&self, other: &Wakers) -> bool {
+        self.notifier == other.notifier && self.count == other.count
     }
 }

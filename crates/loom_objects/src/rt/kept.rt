@@ -1,12 +1,24 @@
-//! Values that a state keeps: they can be copied and compared.
+//! Values that a remembered state keeps: they can be copied and compared.
 ghost use Rattle.std.specs.Prelude.{◌≡◌, IfOk, IsTrue};
 
-use loom_objects::data::Data;
-use loom_objects::operation::{Keyed, Lazy, Message};
+use crate::data::Data;
+use crate::operation::{Keyed, Lazy, Message};
 use loom_views::same::Same;
 use loom_views::sequence::Sequence;
 use std::alloc::{AllocError, Global};
 use std::collections::LinkedList;
+
+// Whether the value is of this kind, and what it is made of passes the test.
+macro_rules! is_kind {
+    ($value:expr, $kind:pat => $test:expr) => {
+        match $value {
+            $kind => $test,
+            _ => false,
+        }
+    };
+}
+
+pub(crate) use is_kind;
 
 /// A value that can be copied and compared (own).
 pub trait Kept: Drop {
@@ -82,8 +94,8 @@ pub(crate) fn copied_value<D: Data>(value: &Option<D>) -> Result<Option<D>, Allo
     }
 }
 
-/// A copy of values in order. An error where memory is refused.
-pub(crate) fn copied_all<T: Kept>(alloc: Global, values: &[T]) -> Result<Sequence<T>, AllocError>
+/// A copy of values in order. An error where memory is refused (own).
+pub fn copied_all<T: Kept>(alloc: Global, values: &[T]) -> Result<Sequence<T>, AllocError>
     ensures { IfOk result (λ copy. copy ≡ values.now) }
 {
     let mut copy = Vec::with_capacity(alloc, values.len())?;
@@ -93,8 +105,8 @@ pub(crate) fn copied_all<T: Kept>(alloc: Global, values: &[T]) -> Result<Sequenc
     Ok(Sequence::from_vec(copy))
 }
 
-/// Whether values are equal, one after another.
-pub(crate) fn are_equal<T: Kept>(one: &[T], other: &[T]) -> bool
+/// Whether values are equal, one after another (own).
+pub fn are_equal<T: Kept>(one: &[T], other: &[T]) -> bool
     ensures { IsTrue result → one.now ≡ other.now }
 {
     let mut rest = one;

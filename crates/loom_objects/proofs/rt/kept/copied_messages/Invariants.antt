@@ -1,5 +1,5 @@
 use Rattle.std.proofs.Common.{◌≡◌, ◌++◌, length}
-use Rattle.loom_engine.proofs.rt.states.kept.copied_messages.Given as goal
+use Rattle.loom_objects.proofs.rt.kept.copied_messages.Given as goal
 
 abbrev pub invariant-loop-message : goal.invariant-loop-message
 invariant-loop-message g l = l.made ++ l.rest ≡ l.messages

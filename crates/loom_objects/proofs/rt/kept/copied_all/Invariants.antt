@@ -1,5 +1,5 @@
 use Rattle.std.proofs.Common.{◌≡◌, take}
-use Rattle.loom_engine.proofs.rt.states.kept.copied_all.Given as goal
+use Rattle.loom_objects.proofs.rt.kept.copied_all.Given as goal
 
 -- those so far
 abbrev pub invariant-loop-value : goal.invariant-loop-value

@@ -1,5 +1,5 @@
 use Rattle.std.proofs.Common.{◌≡◌, take}
-use Rattle.loom_engine.proofs.rt.states.objects.copied_condvar.Given as goal
+use Rattle.loom_objects.proofs.rt.condvar.copied_condvar.Given as goal
 
 -- those so far
 abbrev pub invariant-loop-waiter : goal.invariant-loop-waiter

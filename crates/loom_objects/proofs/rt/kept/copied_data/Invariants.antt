@@ -1,5 +1,5 @@
 use Rattle.std.proofs.Common.{◌≡◌, ◌++◌, length}
-use Rattle.loom_engine.proofs.rt.states.kept.copied_data.Given as goal
+use Rattle.loom_objects.proofs.rt.kept.copied_data.Given as goal
 
 abbrev pub invariant-loop-value : goal.invariant-loop-value
 invariant-loop-value g l = l.made ++ l.rest ≡ l.held

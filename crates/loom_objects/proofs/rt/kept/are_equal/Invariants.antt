@@ -1,5 +1,5 @@
 use Rattle.std.proofs.Common.{◌≡◌, length}
-use Rattle.loom_engine.proofs.rt.states.kept.are_equal.Given as goal
+use Rattle.loom_objects.proofs.rt.kept.are_equal.Given as goal
 
 -- what is left would have to be the same
 abbrev pub invariant-loop-first : goal.invariant-loop-first
