@@ -6,11 +6,14 @@ ghost use Rattle.loom_engine.specs.Path.Route.{IsAtStart};
 ghost use Rattle.loom.specs.Runner.Handle.{newcomer};
 ghost use Rattle.loom.specs.Runner.Errors.{IsRefusedByHost};
 
+mod looks;
+
 use crate::runner::error::RunnerError;
 use crate::runner::exact::Exact;
 use crate::runner::handle::Handle;
 use crate::runner::history::told::Told;
 use crate::runner::job::Job;
+use crate::runner::shared::looks::Looks;
 use crate::runner::stop::Stop;
 use crate::runner::turns::Turns;
 use crate::runner::turns::drawing::Drawing;
@@ -134,7 +137,7 @@ fn share_turns<D: Exact + 'static>(
     let shared = Shared {
         turns: Mutex::new(turns),
         shown: AtomicU64::new(0),
-        looks: AtomicU64::new(MOST_LOOKS),
+        looks: Looks::new(),
         places: [
             Condvar::new(),
             Condvar::new(),
@@ -173,21 +176,13 @@ pub struct Shared<D> {
     pub turns: Mutex<Turns<D>>,
     // whose turn it is, or `ALL`, for threads that look before they sleep. What counts is what stands in `turns`.
     shown: AtomicU64,
-    // how often a thread looks before it sleeps
-    looks: AtomicU64,
+    looks: Looks,
     // where each thread sleeps, by its number
     places: [Condvar; MAX_THREADS],
 }
 
 /// What is shown once the run goes no further, so that no thread waits.
 const ALL: u64 = u64::MAX;
-
-/// How often a thread looks at most whether its turn has come before it sleeps. Another one's turn is mostly shorter than that, and far
-/// shorter than to sleep and to be woken takes.
-const MOST_LOOKS: u64 = 20_000;
-
-/// How often it looks at least.
-const LEAST_LOOKS: u64 = 100;
 
 /// How often a thread looks on before it joins others that are ending.
 const LAST_LOOKS: u32 = 2_000;
@@ -222,22 +217,17 @@ impl<D: Exact> Shared<D> {
         }
     }
 
-    /// Waits until the thread is decided: it looks a while, and then it sleeps. Answers the state. Where looking was enough, the next one
-    /// looks longer, and else half as long: where other work keeps the threads of the run from going on at once, it is better to sleep.
+    /// Waits until the thread is decided: it looks a while, and then it sleeps. Answers the state.
     fn wait<R: Wait>(&self, rt: &R, me: u8) -> MutexGuard<'_, Turns<D>> {
-        let looks = self.looks.load(Ordering::SeqCst);
-        let next = if self.look(me, looks) {
-            more_looks(looks)
-        } else {
-            fewer_looks(looks)
-        };
-        self.looks.store(next, Ordering::SeqCst);
+        let looks = self.looks.next();
+        let is_enough = self.look(me, looks);
+        self.looks.note(looks, is_enough);
         self.sleep(rt, me)
     }
 
     /// Waits for the thread's first turn. Answers the state. That turn may come late, so it says nothing of how long to look.
     fn wait_first<R: Wait>(&self, rt: &R, me: u8) -> MutexGuard<'_, Turns<D>> {
-        self.look(me, self.looks.load(Ordering::SeqCst));
+        self.look(me, self.looks.next());
         self.sleep(rt, me)
     }
 
@@ -275,16 +265,6 @@ impl<D: Exact> Shared<D> {
     fn place(&self, thread: u8) -> &Condvar {
         &self.places[thread as usize % MAX_THREADS]
     }
-}
-
-/// How often the next thread looks, where one has looked long enough.
-fn more_looks(looks: u64) -> u64 {
-    looks.saturating_mul(2).min(MOST_LOOKS)
-}
-
-/// How often the next thread looks, where one has looked in vain.
-fn fewer_looks(looks: u64) -> u64 {
-    (looks / 2).max(LEAST_LOOKS)
 }
 
 /// What is shown where it is this thread's turn, or where the run goes no further.
