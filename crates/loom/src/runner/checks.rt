@@ -254,13 +254,14 @@ fn check_called<
     ensures faults { CountsFaults result (S.fault_count store.old) (S.fault_count store.new) }
 {
     builder.test()?;
-    let mut room = Room::new();
+    let mut room = Room::new(alloc);
     let mut last = LastRun::none(alloc);
     let watcher = Watcher::start(rt, alloc, builder.log, log);
     let answer = make_rounds(
         rt, alloc, builder, &watcher, &mut room, &mut last, closure, visitor, clock, store, log,
     );
     watcher.end(rt);
+    room.end(rt);
     tell_failure(rt, alloc, builder, &answer, closure, log);
     answer
 }

@@ -15,8 +15,8 @@ use crate::runner::error::{RunnerError, error_by};
 use crate::runner::exact::Exact;
 use crate::runner::handle::Handle;
 use crate::runner::history::told::Told;
-use crate::runner::run::call_closure;
-use crate::runner::shared::share_drawn;
+use crate::runner::run::call_main;
+use crate::runner::shared::{Children, share_drawn};
 use crate::runner::stop::Stop;
 use crate::runner::turns::Turns;
 use crate::runner::turns::drawing::Drawing;
@@ -57,6 +57,7 @@ pub(crate) fn draw_run<
     number: u64,
     watcher: &Watcher<D, L>,
     drawer: &mut Drawer,
+    ending: &mut Children,
     closure: &mut F,
     visitor: &mut V,
 ) -> Result<DrawnEnd, RunnerError>
@@ -79,7 +80,7 @@ pub(crate) fn draw_run<
     };
     let shared = share_drawn(alloc, limits, path, Drawing::Walk(theirs))?;
     watcher.show(rt, number, &shared);
-    let told = call_closure(rt, alloc, &shared, closure)?;
+    let told = call_main(rt, alloc, &shared, closure, ending)?;
     watcher.tell(rt, number, &*shared);
     let turns = shared.turns.lock(rt);
     let Ok(after) = turns.drawer() else {

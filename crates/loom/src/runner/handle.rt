@@ -36,6 +36,7 @@ use loom_objects::text::Text;
 use loom_ops::thread::JoinHandle;
 use std::alloc::{AllocError, Global};
 use std::marker::Model;
+use std::mem;
 use std::sync::{Arc, Wait};
 use std::thread::Threads;
 
@@ -49,7 +50,7 @@ pub struct Handle<D, R> {
     thread: u8,
     told: Vec<Entry<D>>,
     stop: Option<Stop>,
-    children: Children<D>,
+    children: Children,
     // of the operation that comes next
     label: Option<Label>,
     // of the thread that is spawned next
@@ -238,10 +239,15 @@ impl<D: Exact + 'static, R: Threads + Wait + Clone + Send + 'static> Handle<D, R
     }
 
     /// Ends the thread by its closure's answer: hands over its result, `exit` and `end`, or for a stop `fail`, unless a call was
-    /// answered by a stop already. Then joins the threads that it started. Answers all their told lists, its own first
+    /// answered by a stop already. Then it leaves the run. Main answers the told lists of all threads, once they have left, its own
+    /// first, and another thread its own. The threads that it started are put into `ending`, and those that stood there are joined
     /// (own). `Memory` where a call was refused memory, or the closure's answer is that: then the run is given up, and nothing is
     /// handed over. `Refused` where a thread was refused.
-    pub fn close(mut self, answer: Result<D, Stop>) -> Result<Vec<Told<D>>, RunnerError>
+    pub fn close(
+        mut self,
+        answer: Result<D, Stop>,
+        ending: &mut Children,
+    ) -> Result<Vec<Told<D>>, RunnerError>
         ensures told { IfOk result (λ all. Leading self.thread all.items (Closes self.told answer)) }
         ensures starved { self.starved ≡ true → result ≡ Err RunnerError.Memory }
         ensures memory { answer ≡ Err Stop.Memory → result ≡ Err RunnerError.Memory }
@@ -250,7 +256,7 @@ impl<D: Exact + 'static, R: Threads + Wait + Clone + Send + 'static> Handle<D, R
         if is_starved(self.stop, &answer) {
             let_answer_go(answer);
             self.give_up(Stop::Memory);
-            return self.leave();
+            return self.leave(ending);
         }
         match last_of(answer) {
             Some(last) => self.finish(last),
@@ -258,7 +264,7 @@ impl<D: Exact + 'static, R: Threads + Wait + Clone + Send + 'static> Handle<D, R
                 self.fail();
             }
         }
-        self.leave()
+        self.leave(ending)
     }
 
     /// Hands over this `finish`, `exit` and `end`, up to the first that is answered by a stop.
@@ -277,8 +283,9 @@ impl<D: Exact + 'static, R: Threads + Wait + Clone + Send + 'static> Handle<D, R
         shared::end(&self.rt, &self.shared);
     }
 
-    /// Joins the threads that it started.
-    pub(crate) fn leave(self) -> Result<Vec<Told<D>>, RunnerError>
+    /// Leaves the run, main once the others have left it. The threads that it started are put into `ending`, and those that stood there
+    /// are joined.
+    pub(crate) fn leave(self, ending: &mut Children) -> Result<Vec<Told<D>>, RunnerError>
         ensures told { IfOk result (λ all. Leading self.thread all.items (λ es. es ≡ self.told)) }
         ensures fed { OnOk result (self.starved ≡ false) }
         ensures starved { self.starved ≡ true → result ≡ Err RunnerError.Memory }
@@ -295,8 +302,9 @@ impl<D: Exact + 'static, R: Threads + Wait + Clone + Send + 'static> Handle<D, R
             label: _,
             name: _,
         } = self;
-        let_go_of(shared, !children.is_empty());
-        let others = shared::join_all(&rt, alloc, children);
+        shared::join_all(&rt, mem::replace(ending, children));
+        let others = shared::others_of(&rt, alloc, &shared, thread);
+        let_go_of(shared);
         let first = Told {
             thread,
             entries: told,
@@ -328,13 +336,8 @@ fn is_starved<D>(stop: Option<Stop>, answer: &Result<D, Stop>) -> bool
 /// Lets a closure's answer go.
 fn let_answer_go<D: Drop>(_answer: Result<D, Stop>) {}
 
-/// Lets go of what the threads of a run share. Where some of them are joined then it looks on a while before. It stands alone, since that
-/// is done in many steps.
-fn let_go_of<D: Exact>(shared: Arc<Shared<D>, Global>, joins: bool) {
-    if joins {
-        shared.look_on();
-    }
-}
+/// Lets go of what the threads of a run share. It stands alone, since that is done in many steps.
+fn let_go_of<D: Exact>(_shared: Arc<Shared<D>, Global>) {}
 
 /// Lets the lists go.
 fn let_lists_go<D: Drop>(_first: Told<D>, _others: Result<Vec<Told<D>>, RunnerError>) {}

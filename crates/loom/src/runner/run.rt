@@ -16,7 +16,7 @@ use crate::runner::handle::Handle;
 use crate::runner::history::told::Told;
 use crate::runner::last_run::LastRun;
 use crate::runner::run_end::{RunEnd, next_path};
-use crate::runner::shared::{Room, Shared, main_handle};
+use crate::runner::shared::{Children, Room, Shared, join_all, main_handle};
 use crate::runner::stop::Stop;
 use crate::runner::turns::Turns;
 use crate::runner::watcher::Watcher;
@@ -52,11 +52,13 @@ pub fn make_run<
     ensures errors { IfErr result (λ e. IsNoRun (CalledAtMut F.FnMut) V.takes limits closure.old visitor.old path.now e visitor.new) }
 {
     let mut last = LastRun::none(alloc);
-    let mut room = Room::new();
+    let mut room = Room::new(alloc);
     let watcher = Watcher::<D, HostRuntime>::none();
-    make_next_run(
+    let end = make_next_run(
         rt, alloc, limits, path, 1, &watcher, &mut room, &mut last, closure, visitor,
-    )
+    );
+    room.end(rt);
+    end
 }
 
 /// `make_run` of the run of this number after another one. `Changed` besides, where a thread hands over another operation than in that
@@ -91,7 +93,7 @@ pub fn make_next_run<
 {
     let shared = room.share(rt, alloc, limits, path)?;
     watcher.show(rt, number, &shared);
-    let told = call_closure(rt, alloc, &shared, closure)?;
+    let told = call_main(rt, alloc, &shared, closure, &mut room.ending)?;
     watcher.tell(rt, number, &*shared);
     let mut turns = shared.turns.lock(rt);
     judge(
@@ -106,7 +108,7 @@ pub fn make_next_run<
     )
 }
 
-/// Calls the closure as main, and closes its handle. Answers the threads' told lists, main's first.
+/// Calls the closure as main, and closes its handle. Answers the threads' told lists, main's first. All of them have ended.
 pub(crate) fn call_closure<
     D: Exact + 'static,
     R: Threads + Wait + Clone + Send + 'static,
@@ -122,9 +124,32 @@ pub(crate) fn call_closure<
     ensures called { IfOk result (λ told. WasCalled (CalledAtMut F.FnMut) closure.old closure.new told.items) }
     ensures errors { IfErr result IsRefusedByHost }
 {
+    let mut ending = Vec::new(alloc);
+    let told = call_main(rt, alloc, shared, closure, &mut ending);
+    join_all(rt, ending);
+    told
+}
+
+/// `call_closure`, but that the threads that main has started are put into `ending`, and those that stood there are joined.
+pub(crate) fn call_main<
+    D: Exact + 'static,
+    R: Threads + Wait + Clone + Send + 'static,
+    F: FnMut(&mut Handle<D, R>) -> Result<D, Stop>,
+>(
+    rt: &R,
+    alloc: Global,
+    shared: &Arc<Shared<D>, Global>,
+    closure: &mut F,
+    ending: &mut Children,
+) -> Result<Vec<Told<D>>, RunnerError>
+    requires callable { F.IsAlwaysCallable closure.old }
+    ensures again { F.IsAlwaysCallable closure.new }
+    ensures called { IfOk result (λ told. WasCalled (CalledAtMut F.FnMut) closure.old closure.new told.items) }
+    ensures errors { IfErr result IsRefusedByHost }
+{
     let mut handle = main_handle(rt, alloc, shared)?;
     let answer = ask_closure(closure, &mut handle);
-    let mut told = handle.close(answer)?;
+    let mut told = handle.close(answer, ending)?;
     put_in_order(&mut told);
     Ok(told)
 }

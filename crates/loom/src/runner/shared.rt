@@ -25,6 +25,7 @@ use loom_ops::thread::JoinHandle;
 use loom_views::rt::MAX_THREADS;
 use std::alloc::{AllocError, Global};
 use std::hint::spin_loop;
+use std::mem;
 use std::sync::atomic::{AtomicU64, Ordering};
 use std::sync::{Arc, Condvar, Mutex, MutexGuard, Wait};
 use std::thread::{self, Threads};
@@ -46,16 +47,31 @@ pub fn share<D: Exact + 'static>(
     share_turns(alloc, turns)
 }
 
-/// The state that the threads of a run shared, which the next one uses again (own).
+/// What runs leave for the next one (own).
 #[derive(Drop)]
 pub struct Room<D> {
+    // the state that their threads shared
     shared: Option<Arc<Shared<D>, Global>>,
+    /// The threads that main of the last run has started. They have left it, and are joined once the next one is over: to wait until a
+    /// thread has ended takes longer than most of a run.
+    pub(crate) ending: Children,
 }
 
 impl<D> Room<D> {
     /// Before the first run (own).
-    pub fn new() -> Room<D> {
-        Room { shared: None }
+    pub fn new(alloc: Global) -> Room<D> {
+        Room {
+            shared: None,
+            ending: Vec::new(alloc),
+        }
+    }
+}
+
+impl<D: Drop> Room<D> {
+    /// No run comes any more (own).
+    pub fn end<R: Threads>(self, rt: &R) {
+        let Room { shared: _, ending } = self;
+        join_all(rt, ending);
     }
 }
 
@@ -87,7 +103,7 @@ impl<D: Exact + 'static> Room<D> {
     }
 }
 
-/// What the threads of the run before have shared, at the beginning of a run along the path. All of them have ended.
+/// What the threads of the run before have shared, at the beginning of a run along the path. All of them have left it.
 fn share_again<D: Exact + 'static, R: Wait>(
     rt: &R,
     shared: &Arc<Shared<D>, Global>,
@@ -145,6 +161,9 @@ fn share_turns<D: Exact + 'static>(
             Condvar::new(),
             Condvar::new(),
         ],
+        running: AtomicU64::new(0),
+        left: Mutex::new(Left::new(alloc)),
+        all_left: Condvar::new(),
     };
     match Arc::new(alloc, shared) {
         Ok(shared) => Ok(shared),
@@ -161,13 +180,26 @@ pub fn main_handle<D: Exact + 'static, R: Threads + Wait + Clone + Send + 'stati
     ensures made { IfOk result (λ handle. handle ≡ newcomer 0) }
     ensures memory { IfErr result (λ e. e ≡ RunnerError.Memory) }
 {
+    handle_of(rt, alloc, shared, 0)
+}
+
+/// The thread's handle, with an empty told list. `Memory` where a growth was refused.
+fn handle_of<D: Exact + 'static, R: Threads + Wait + Clone + Send + 'static>(
+    rt: &R,
+    alloc: Global,
+    shared: &Arc<Shared<D>, Global>,
+    thread: u8,
+) -> Result<Handle<D, R>, RunnerError>
+    ensures made { IfOk result (λ handle. handle ≡ newcomer thread) }
+    ensures memory { IfErr result (λ e. e ≡ RunnerError.Memory) }
+{
     let Ok(mine) = Arc::try_clone(shared) else {
         return Err(RunnerError::Memory);
     };
     let Ok(again) = rt.clone() else {
         return Err(RunnerError::Memory);
     };
-    Ok(Handle::new(again, alloc, mine, 0))
+    Ok(Handle::new(again, alloc, mine, thread))
 }
 
 /// What the threads of a run share: the state of the run, and where each of them waits for its turn.
@@ -179,13 +211,15 @@ pub struct Shared<D> {
     looks: Looks,
     // where each thread sleeps, by its number
     places: [Condvar; MAX_THREADS],
+    // how many of the threads that were started haven't left the run
+    running: AtomicU64,
+    left: Mutex<Left<D>>,
+    // where main sleeps until the others have left
+    all_left: Condvar,
 }
 
 /// What is shown once the run goes no further, so that no thread waits.
 const ALL: u64 = u64::MAX;
-
-/// How often a thread looks on before it joins others that are ending.
-const LAST_LOOKS: u32 = 2_000;
 
 impl<D: Exact> Shared<D> {
     /// The state is that before a run along the path, within these limits, of which main has the first turn.
@@ -250,15 +284,47 @@ impl<D: Exact> Shared<D> {
         false
     }
 
-    /// Looks on a while once the run goes no further: then the threads are ending, mostly sooner than one that joins them falls asleep
-    /// and is woken.
-    pub(crate) fn look_on(&self) {
-        for _ in 0..LAST_LOOKS {
-            if self.shown.load(Ordering::SeqCst) != ALL {
-                return;
+    /// One thread more is started.
+    fn note_start(&self) {
+        self.running.fetch_add(1, Ordering::SeqCst);
+    }
+
+    /// A thread that was started leaves the run with these told lists, or with why it has none. It has handed over its last operation.
+    fn leave<R: Wait>(&self, rt: &R, lists: Result<Vec<Told<D>>, RunnerError>) {
+        let mut left = self.left.lock(rt);
+        left.add(lists);
+        let before = self.running.fetch_sub(1, Ordering::SeqCst);
+        drop(left);
+        if before == 1 {
+            self.all_left.notify_all();
+        }
+    }
+
+    /// Waits until each thread that was started has left the run. Answers their told lists.
+    fn wait_for_others<R: Wait>(&self, rt: &R, alloc: Global) -> Result<Vec<Told<D>>, RunnerError>
+        ensures { IfErr result IsRefusedByHost }
+    {
+        let looks = self.looks.next();
+        let is_enough = self.look_for_others(looks);
+        self.looks.note(looks, is_enough);
+        let running = &self.running;
+        let mut left = self.all_left.wait_while(rt, self.left.lock(rt), |_left| {
+            running.load(Ordering::SeqCst) != 0
+        });
+        let all = mem::replace(&mut *left, Left::new(alloc));
+        drop(left);
+        all.lists()
+    }
+
+    /// Looks so often whether the others have left the run.
+    fn look_for_others(&self, looks: u64) -> bool {
+        for _ in 0..looks {
+            if self.running.load(Ordering::SeqCst) == 0 {
+                return true;
             }
             spin_loop();
         }
+        false
     }
 
     /// Where the thread sleeps. A run has no more threads than places.
@@ -283,11 +349,50 @@ pub(crate) struct Spawn {
     pub(crate) name: Option<Name>,
 }
 
+/// What the threads that have left a run leave to main.
+#[derive(Drop)]
+struct Left<D> {
+    lists: Vec<Told<D>>,
+    error: Option<RunnerError>,
+}
+
+impl<D: Drop> Left<D> {
+    fn new(alloc: Global) -> Left<D> {
+        Left {
+            lists: Vec::new(alloc),
+            error: None,
+        }
+    }
+
+    /// One thread more has left, with these lists, or with why it has none.
+    fn add(&mut self, lists: Result<Vec<Told<D>>, RunnerError>) {
+        match lists {
+            Ok(mut lists) => {
+                if self.lists.append(&mut lists).is_err() {
+                    self.error = Some(RunnerError::Memory);
+                }
+            }
+            Err(error) => self.error = Some(error),
+        }
+    }
+
+    /// All lists, or why there are none.
+    fn lists(self) -> Result<Vec<Told<D>>, RunnerError>
+        ensures { IfErr result IsRefusedByHost }
+    {
+        let Left { lists, error } = self;
+        match error {
+            Some(error) => Err(refusal_in(&error)),
+            None => Ok(lists),
+        }
+    }
+}
+
 /// A thread that was started.
-pub(crate) type Child<D> = thread::JoinHandle<Result<Vec<Told<D>>, RunnerError>>;
+pub type Child = thread::JoinHandle<()>;
 
 /// The threads that a handle has started.
-pub(crate) type Children<D> = Vec<Child<D>>;
+pub type Children = Vec<Child>;
 
 /// Hands over an operation of the thread whose turn it is, with its label, and waits for its reply.
 pub(crate) fn hand_over<D: Exact, R: Wait>(
@@ -367,7 +472,7 @@ pub(crate) fn start<
     shared: &Arc<Shared<D>, Global>,
     spawn: Spawn,
     job: J,
-) -> Result<(JoinHandle, Child<D>), Stop>
+) -> Result<(JoinHandle, Child), Stop>
     requires { J.ready job }
 {
     let handle = begin(rt, shared, spawn)?;
@@ -378,12 +483,16 @@ pub(crate) fn start<
     let Ok(theirs) = Arc::try_clone(shared) else {
         return Err(Stop::Memory);
     };
-    let body = move || -> Result<Vec<Told<D>>, RunnerError>
+    let body = move ||
         requires { J.ready job }
     { run_job(again, alloc, theirs, thread, job) };
+    shared.note_start();
     match thread::spawn(rt, body) {
         Ok(child) => Ok((handle, child)),
-        Err(_) => Err(Stop::Refused),
+        Err(_) => {
+            shared.leave(rt, Err(RunnerError::Refused));
+            Err(Stop::Refused)
+        }
     }
 }
 
@@ -399,23 +508,46 @@ fn begin<D: Exact, R: Wait>(rt: &R, shared: &Shared<D>, spawn: Spawn) -> Result<
     }
 }
 
-/// What a started thread does: it waits for its turn, runs the job, and closes its handle.
+/// What a started thread does: it waits for its turn, runs the job, closes its handle, leaves the run, and joins the threads that it has
+/// started.
 fn run_job<D: Exact + 'static, R: Threads + Wait + Clone + Send + 'static, J: Job<D, R> + 'static>(
     rt: R,
     alloc: Global,
     shared: Arc<Shared<D>, Global>,
     thread: u8,
     job: J,
+)
+    requires { J.ready job }
+{
+    let mut children = Vec::new(alloc);
+    let lists = told_by(&rt, alloc, &shared, thread, job, &mut children);
+    shared.leave(&rt, lists);
+    drop(shared);
+    join_all(&rt, children);
+}
+
+/// A started thread waits for its turn, runs the job, and closes its handle. Answers its told list. The threads that it has started are
+/// put into `children`.
+fn told_by<D: Exact + 'static, R: Threads + Wait + Clone + Send + 'static, J: Job<D, R> + 'static>(
+    rt: &R,
+    alloc: Global,
+    shared: &Arc<Shared<D>, Global>,
+    thread: u8,
+    job: J,
+    children: &mut Children,
 ) -> Result<Vec<Told<D>>, RunnerError>
     requires { J.ready job }
 {
-    let is_started = is_started(&rt, &shared, thread);
-    let mut handle: Handle<D, R> = Handle::new(rt, alloc, shared, thread);
+    let is_started = is_started(rt, shared, thread);
+    let Ok(mut handle) = handle_of(rt, alloc, shared, thread) else {
+        give_up(rt, shared, Stop::Memory);
+        return Err(RunnerError::Memory);
+    };
     if !is_started {
-        return handle.leave();
+        return handle.leave(children);
     }
     let answer = job.run(&mut handle);
-    handle.close(answer)
+    handle.close(answer, children)
 }
 
 /// What the host refused where a thread that was joined answered this error. It was started, so it answers as its handle's `close`, and
@@ -432,28 +564,25 @@ fn refusal_in(error: &RunnerError) -> RunnerError
     }
 }
 
-/// Joins all threads, also behind an error.
-pub(crate) fn join_all<D: Exact + 'static, R: Threads>(
+/// The told lists of the other threads: for main those of all others, once they have left the run, and else none.
+pub(crate) fn others_of<D: Exact, R: Wait>(
     rt: &R,
     alloc: Global,
-    children: Children<D>,
+    shared: &Shared<D>,
+    thread: u8,
 ) -> Result<Vec<Told<D>>, RunnerError>
     ensures { IfErr result IsRefusedByHost }
 {
-    let mut all = Vec::new(alloc);
-    let mut error = None;
-    for child in children {
-        match child.join(rt) {
-            Ok(mut lists) => {
-                if all.append(&mut lists).is_err() {
-                    error = Some(RunnerError::Memory);
-                }
-            }
-            Err(e) => error = Some(refusal_in(&e)),
-        }
+    if thread == 0 {
+        shared.wait_for_others(rt, alloc)
+    } else {
+        Ok(Vec::new(alloc))
     }
-    match error {
-        Some(e) => Err(e),
-        None => Ok(all),
+}
+
+/// Joins all threads.
+pub(crate) fn join_all<R: Threads>(rt: &R, children: Children) {
+    for child in children {
+        child.join(rt);
     }
 }

@@ -16,6 +16,7 @@ use crate::runner::drawn::{DrawnEnd, draw_run};
 use crate::runner::error::RunnerError;
 use crate::runner::exact::Exact;
 use crate::runner::handle::Handle;
+use crate::runner::shared::{Children, join_all};
 use crate::runner::stop::Stop;
 use crate::runner::watcher::Watcher;
 use log::Log;
@@ -63,6 +64,7 @@ pub fn walk<
     let watcher = Watcher::start(rt, alloc, builder.log, log);
     let mut drawer = Drawer::new(walk);
     let mut different = Different::new(alloc, builder.max_different);
+    let mut ending = Vec::new(alloc);
     let answer = make_walk(
         rt,
         alloc,
@@ -71,16 +73,19 @@ pub fn walk<
         &watcher,
         &mut drawer,
         &mut different,
+        &mut ending,
         &mut closure,
         visitor,
         clock,
         log,
     );
     watcher.end(rt);
+    join_all(rt, ending);
     answer
 }
 
-/// The runs of a walk, by settings in range, whose choices this draws. The watcher is shown each of them, and no run has come yet.
+/// The runs of a walk, by settings in range, whose choices this draws. The watcher is shown each of them, the threads that the last one
+/// has started are put into `ending`, and no run has come yet.
 fn make_walk<
     D: Exact + 'static,
     R: Threads + Wait + Clone + Send + 'static,
@@ -96,6 +101,7 @@ fn make_walk<
     watcher: &Watcher<D, L>,
     drawer: &mut Drawer,
     different: &mut Different,
+    ending: &mut Children,
     closure: &mut F,
     visitor: &mut V,
     clock: &mut C,
@@ -127,7 +133,7 @@ fn make_walk<
         builder.log_run(log, number);
         let run = number + 1;
         let end = draw_run(
-            rt, alloc, builder, &path, run, watcher, drawer, closure, visitor,
+            rt, alloc, builder, &path, run, watcher, drawer, ending, closure, visitor,
         )?;
         match end {
             DrawnEnd::Ended(hash) => different.note(hash),

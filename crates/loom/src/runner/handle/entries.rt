@@ -62,9 +62,9 @@ pub(crate) fn note<D: Exact>(
 /// Adds a spawn of a thread of this name, and the thread that it has started.
 pub(crate) fn note_spawn<D: Drop>(
     told: &mut Vec<Entry<D>>,
-    children: &mut Children<D>,
+    children: &mut Children,
     name: Option<Name>,
-    started: Result<(JoinHandle, Child<D>), Stop>,
+    started: Result<(JoinHandle, Child), Stop>,
 ) -> Result<JoinHandle, Stop>
     requires room { vec_len told.old < vec_capacity told.old }
     requires beside { vec_len children.old < vec_capacity children.old }

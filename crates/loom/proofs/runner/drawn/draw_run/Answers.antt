@@ -9,17 +9,17 @@ use Rattle.loom.proofs.runner.drawn.draw_run.Goals as goal
 
 pub returns-clause-made : goal.returns-clause-made
 returns-clause-made g c =
-    let seen : WasCalled (CalledAtMut g.F.FnMut) c.args.closure.now c.call_closure.new.closure c.as_slice.result.now =
-    subst (λ (all : List (Share _)). WasCalled (CalledAtMut g.F.FnMut) c.args.closure.now c.call_closure.new.closure all) (sym c.as_slice.ensures.value) c.in_ok-told.ensures.called in
-    run_drawn (CalledAtMut g.F.FnMut) g.V.Visitor.takes (limits_of c.args.builder.now) c.args.closure.now c.call_closure.new.closure c.args.visitor.now c.judge.new.visitor c.args.path.now c.deref-state.result.now c.as_slice.result.now seen
+    let seen : WasCalled (CalledAtMut g.F.FnMut) c.args.closure.now c.call_main.new.closure c.as_slice.result.now =
+    subst (λ (all : List (Share _)). WasCalled (CalledAtMut g.F.FnMut) c.args.closure.now c.call_main.new.closure all) (sym c.as_slice.ensures.value) c.in_ok-told.ensures.called in
+    run_drawn (CalledAtMut g.F.FnMut) g.V.Visitor.takes (limits_of c.args.builder.now) c.args.closure.now c.call_main.new.closure c.args.visitor.now c.judge.new.visitor c.args.path.now c.deref-state.result.now c.as_slice.result.now seen
     c.judge.result c.judge.ensures.judged
 
 pub returns-clause-errors : goal.returns-clause-errors
 returns-clause-errors g c =
-    let seen : WasCalled (CalledAtMut g.F.FnMut) c.args.closure.now c.call_closure.new.closure c.as_slice.result.now =
-    subst (λ (all : List (Share _)). WasCalled (CalledAtMut g.F.FnMut) c.args.closure.now c.call_closure.new.closure all) (sym c.as_slice.ensures.value) c.in_ok-told.ensures.called in
+    let seen : WasCalled (CalledAtMut g.F.FnMut) c.args.closure.now c.call_main.new.closure c.as_slice.result.now =
+    subst (λ (all : List (Share _)). WasCalled (CalledAtMut g.F.FnMut) c.args.closure.now c.call_main.new.closure all) (sym c.as_slice.ensures.value) c.in_ok-told.ensures.called in
     weaker c.judge.result _ _
-    (unjudged_drawn (CalledAtMut g.F.FnMut) g.V.Visitor.takes (limits_of c.args.builder.now) c.args.closure.now c.call_closure.new.closure c.args.visitor.now c.judge.new.visitor c.args.path.now c.deref-state.result.now c.as_slice.result.now seen)
+    (unjudged_drawn (CalledAtMut g.F.FnMut) g.V.Visitor.takes (limits_of c.args.builder.now) c.args.closure.now c.call_main.new.closure c.args.visitor.now c.judge.new.visitor c.args.path.now c.deref-state.result.now c.as_slice.result.now seen)
     c.judge.ensures.errors
 
 pub returns-in_err-shared-clause-errors : goal.returns-in_err-shared-clause-errors

@@ -13,22 +13,22 @@ returns-clause-made g c =
     let w = c.in_ok-told.ensures.called in
     let seen =
     subst (λ (all : List (Share _)). Leading w.handle.thread all (Closes w.handle.told w.answer)) (sym c.as_slice.ensures.value) w.main in
-    run_made (CalledAtMut g.F.FnMut) g.V.Visitor.takes c.args.limits c.args.closure.now c.call_closure.new.closure c.args.visitor.now c.judge.new.visitor c.args.path.now
+    run_made (CalledAtMut g.F.FnMut) g.V.Visitor.takes c.args.limits c.args.closure.now c.call_main.new.closure c.args.visitor.now c.judge.new.visitor c.args.path.now
     c.deref_mut.result.now c.as_slice.result.now (newcomer 0) w.handle w.answer refl w.call seen c.judge.result c.judge.ensures.judged
 
 pub returns-clause-next : goal.returns-clause-next
 returns-clause-next g c =
-    let seen : WasCalled (CalledAtMut g.F.FnMut) c.args.closure.now c.call_closure.new.closure c.as_slice.result.now =
-    subst (λ (all : List (Share _)). WasCalled (CalledAtMut g.F.FnMut) c.args.closure.now c.call_closure.new.closure all) (sym c.as_slice.ensures.value) c.in_ok-told.ensures.called in
-    next_made (CalledAtMut g.F.FnMut) g.V.Visitor.takes c.args.limits c.args.closure.now c.call_closure.new.closure c.args.visitor.now c.judge.new.visitor c.args.path.now c.args.last.now c.judge.new.last
+    let seen : WasCalled (CalledAtMut g.F.FnMut) c.args.closure.now c.call_main.new.closure c.as_slice.result.now =
+    subst (λ (all : List (Share _)). WasCalled (CalledAtMut g.F.FnMut) c.args.closure.now c.call_main.new.closure all) (sym c.as_slice.ensures.value) c.in_ok-told.ensures.called in
+    next_made (CalledAtMut g.F.FnMut) g.V.Visitor.takes c.args.limits c.args.closure.now c.call_main.new.closure c.args.visitor.now c.judge.new.visitor c.args.path.now c.args.last.now c.judge.new.last
     c.deref_mut.result.now c.as_slice.result.now seen c.judge.result c.judge.ensures.judged c.judge.ensures.next
 
 pub returns-clause-errors : goal.returns-clause-errors
 returns-clause-errors g c =
-    let seen : WasCalled (CalledAtMut g.F.FnMut) c.args.closure.now c.call_closure.new.closure c.as_slice.result.now =
-    subst (λ (all : List (Share _)). WasCalled (CalledAtMut g.F.FnMut) c.args.closure.now c.call_closure.new.closure all) (sym c.as_slice.ensures.value) c.in_ok-told.ensures.called in
+    let seen : WasCalled (CalledAtMut g.F.FnMut) c.args.closure.now c.call_main.new.closure c.as_slice.result.now =
+    subst (λ (all : List (Share _)). WasCalled (CalledAtMut g.F.FnMut) c.args.closure.now c.call_main.new.closure all) (sym c.as_slice.ensures.value) c.in_ok-told.ensures.called in
     weaker c.judge.result _ _
-    (unjudged_next (CalledAtMut g.F.FnMut) g.V.Visitor.takes c.args.limits c.args.closure.now c.call_closure.new.closure c.args.visitor.now c.judge.new.visitor c.args.path.now c.args.last.now c.args.number
+    (unjudged_next (CalledAtMut g.F.FnMut) g.V.Visitor.takes c.args.limits c.args.closure.now c.call_main.new.closure c.args.visitor.now c.judge.new.visitor c.args.path.now c.args.last.now c.args.number
     c.deref_mut.result.now c.as_slice.result.now seen) c.judge.ensures.errors
 
 pub returns-in_err-shared-clause-errors : goal.returns-in_err-shared-clause-errors

@@ -16,4 +16,4 @@ pub returns-in-Some-clause-errors : goal.returns-in-Some-clause-errors
 returns-in-Some-clause-errors g c = c.in-Some.ensures.host
 
 pub returns-clause-errors : goal.returns-clause-errors
-returns-clause-errors g c = c.gather.ensures.errors c.join_all-others.ensures
+returns-clause-errors g c = c.gather.ensures.errors c.others_of-others.ensures

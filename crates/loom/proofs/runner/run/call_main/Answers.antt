@@ -1,7 +1,7 @@
 use Rattle.std.proofs.Common.{◌∙◌, subst}
 use Rattle.std.specs.Fn.{CalledAtMut}
 use Rattle.loom.specs.Runner.Handle.{Teller}
-use Rattle.loom.proofs.runner.run.call_closure.Goals as goal
+use Rattle.loom.proofs.runner.run.call_main.Goals as goal
 
 pub returns-clause-called : goal.returns-clause-called
 returns-clause-called g c =
