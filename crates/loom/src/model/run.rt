@@ -83,7 +83,7 @@ pub(crate) fn run<B: Body, L: Listener<B::Data>>(
 
 /// The body alone, as it is. What the first of those before it needed room for is used again.
 #[inline(always)]
-fn begin<B: Body>(bodies: &mut Vec<B>, body: &B) -> Result<(), AllocError>
+pub(crate) fn begin<B: Body>(bodies: &mut Vec<B>, body: &B) -> Result<(), AllocError>
     ensures { IfOk result (λ _. bodies.new.items ≡ body.now ∷ []) }
 {
     bodies.truncate(1);

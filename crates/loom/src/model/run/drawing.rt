@@ -13,7 +13,7 @@ ghost use Rattle.loom.specs.Model.Turns.{IsUnderWay};
 ghost use Rattle.loom.specs.Model.Walking.{EndsSo, RunsDrawn};
 
 use crate::model::listener::NoListener;
-use crate::model::run::{Ending, Room, add_child, ended, stopped};
+use crate::model::run::{Ending, Room, add_child, begin, ended, stopped};
 use loom_engine::rt::execution::{Execution, Limits};
 use loom_engine::rt::path::Path;
 use loom_engine::rt::path::drawing::Chooser;
@@ -40,8 +40,7 @@ pub(crate) fn draw_run<B: Body, C: Chooser>(
     ensures located { IfOk result (IsLocated false) }
     ensures same { IsSameSearch path.old path.new }
 {
-    room.bodies.clear();
-    room.bodies.push(body.try_clone()?)?;
+    begin(&mut room.bodies, body)?;
     room.execution.restart(limits)?;
     draw_turns(&mut room.execution, &mut room.bodies, path, chooser)
 }
