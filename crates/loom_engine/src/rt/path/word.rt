@@ -1,13 +1,13 @@
 //! A node of a path as a word of 64 bits, and the fields of that word (own). Only this file knows which bits a field is. Its
 //! functions are inlined, so that who asks for one field of a node reads no other.
 
-ghost use Rattle.std.specs.Prelude.{◌≡◌, ◌<◌, ◌≤◌, ◌+◌, ◌*◌, ◌^◌, ◌↔◌, ℕ, List, Option, IfSome, IsTrue, None, map, length};
+ghost use Rattle.std.specs.Prelude.{◌≡◌, ◌<◌, ◌≤◌, ◌+◌, ◌*◌, ◌^◌, ◌↔◌, ℕ, List, Option, IfSome, IsTrue, None, Some, if◌then◌else◌, map, length};
 ghost use Rattle.std.specs.List.{position_from};
 ghost use Rattle.loom_engine.specs.Walk.Path.{advance};
 ghost use Rattle.loom_objects.specs.Tree.Question.{made_of};
 ghost use Rattle.loom_objects.specs.Tree.Asked.{which_thread};
 ghost use Rattle.loom_objects.specs.Tree.Stores.{slots};
-ghost use Rattle.loom_engine.specs.Path.Nodes.{ability_of, active_thread, is_pending, seen, seen_load, seen_schedule, IsWell, IsWellLoad};
+ghost use Rattle.loom_engine.specs.Path.Nodes.{ability_of, active_thread, is_active, is_pending, seen, seen_load, seen_schedule, IsWell, IsWellLoad};
 ghost use Rattle.loom_engine.specs.Path.Words.{bits, bit, beside, first_number, status_number, first_of, status_of, is_one, status_in, statuses_in, may_read_in, readable_in, explores_in, schedule_in, load_in, spurious_in, node_in, word_of, places_of, IsSet, IsFit};
 
 use crate::rt::path::node::{
@@ -304,9 +304,34 @@ pub fn choice(word: u64) -> Choice
     ensures { (places : Places) → result ≡ (seen (node_in word places)).present }
 {
     match bits(word, 0, 2) {
-        SCHEDULE => Choice::Thread(active(word)),
+        SCHEDULE => Choice::Thread(drawn_thread(word)),
         LOAD => Choice::Load(load(word).slot()),
         _ => Choice::Spurious(answer(word)),
+    }
+}
+
+/// `active`, where the thread was drawn.
+// Each status is looked at, whichever thread it is: the end of a shorter search couldn't be foretold.
+#[inline(always)]
+fn drawn_thread(word: u64) -> Option<u8>
+    ensures { result ≡ active_thread (statuses_in word) }
+{
+    let fifth = if_active(status(word, 4), 4, None);
+    let fourth = if_active(status(word, 3), 3, fifth);
+    let third = if_active(status(word, 2), 2, fourth);
+    let second = if_active(status(word, 1), 1, third);
+    if_active(status(word, 0), 0, second)
+}
+
+/// The thread, if this is the status of the choice, or else this one behind it.
+#[inline(always)]
+fn if_active(status: Status, thread: u8, behind: Option<u8>) -> Option<u8>
+    ensures { result ≡ (if is_active status then Some thread else behind) }
+{
+    if status.is_active() {
+        Some(thread)
+    } else {
+        behind
     }
 }
 
