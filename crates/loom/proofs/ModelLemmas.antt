@@ -22,4 +22,5 @@ pub mod CoverDefaults
 pub mod CoverFrom
 pub mod CoverRounds
 pub mod CoverTexts
+pub mod CoverPartTexts
 pub mod CoverParts

@@ -28,5 +28,6 @@ pub mod Within
 pub mod Cover
 pub mod CoverStores
 pub mod CoverText
+pub mod CoverPartText
 pub mod Covered
 pub mod CoverParts

@@ -3,6 +3,8 @@ use Rattle.std.specs.Prelude.{ℕ, ◌≡◌, ◌≢◌, ◌⊎◌, List, Option
 use Rattle.loom_objects.specs.declared.choice.Choice.{Choice}
 use Rattle.loom_objects.specs.Tree.Tree.{Tree}
 use Rattle.loom_engine.specs.declared.rt.path.node.Node.{Node}
+use Rattle.loom_engine.specs.declared.rt.parts.error.PartsError.{PartsError}
+use Rattle.loom_engine.specs.declared.rt.parts.error.PartsError.TheVariants as parts
 use Rattle.loom_engine.specs.declared.rt.path.checkpoint.error.PathError.{PathError}
 use Rattle.loom_engine.specs.declared.rt.path.checkpoint.error.PathError.TheVariants as why
 use Rattle.loom_engine.specs.Checkpoint.Accepted.{IsRefusedText}
@@ -26,6 +28,16 @@ of_path (why.OtherSettings setting) = OtherSettings setting
 of_path (why.TooManyNodes count) = TooManyNodes count
 of_path why.BadNode = BadNode
 of_path (why.Memory e) = Memory
+
+abbrev pub of_parts : PartsError → CheckError
+of_parts parts.NotJson = NotJson
+of_parts parts.WrongFormat = WrongShape
+of_parts (parts.WrongVersion version) = WrongVersion version
+of_parts parts.WrongShape = WrongShape
+of_parts (parts.Path why) = of_path why
+of_parts (parts.WrongFloor floor) = BadNode
+of_parts parts.BadOption = BadNode
+of_parts (parts.Memory e) = Memory
 
 abbrev pub of_store : StoreError → CheckError
 of_store store.Fault = Store

@@ -1,6 +1,7 @@
 //! Checks that remember states, and so cover every run of a body. At each first branch point of an operation past the nodes of its
 //! path a run's state is looked up: if it was noted the run is given up there, since what comes then is tried from where it was
 //! noted; otherwise it is noted. From the ways that runs went between such states it is known whether each of them leads to an end.
+pub(crate) mod keys;
 pub mod part;
 pub mod part_texts;
 pub mod run;

@@ -3,7 +3,7 @@ ghost use Rattle.std.specs.Prelude.{◌≡◌, ◌≢◌, ◌≤◌, ◌<◌, �
 ghost use Rattle.loom_engine.specs.Path.Route.{IsAtStart, at_rest};
 ghost use Rattle.loom_engine.specs.Runs.Body.{runs as runs_of};
 ghost use Rattle.loom.specs.Model.Parts.{ComesToAbove, CountsRuns, IsWithin, Works};
-ghost use Rattle.loom.specs.Model.Refusals.{IsOtherPart};
+ghost use Rattle.loom.specs.Model.Refusals.{IsOtherPart, of_parts};
 ghost use Rattle.loom.specs.Model.Settings.{explores, search_of, tested};
 
 use crate::model::builder::Builder;
@@ -218,7 +218,9 @@ where
 }
 
 /// What it means for a check that a text has no parts.
-pub(crate) fn refusal_of(why: PartsError) -> CheckError {
+pub(crate) fn refusal_of(why: PartsError) -> CheckError
+    ensures { result ≡ of_parts why }
+{
     match why {
         PartsError::NotJson => CheckError::NotJson,
         PartsError::WrongFormat | PartsError::WrongShape => CheckError::WrongShape,

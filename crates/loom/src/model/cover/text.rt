@@ -1,16 +1,16 @@
 //! The text with which a covering check goes on: that of its path, with a key of its own, `search`, which says `cover`. So a plain
 //! check refuses it, and a covering check that of a plain one.
 ghost use Rattle.std.specs.Prelude.{◌≡◌, ◌↔◌, codes, IfOk, IfErr, IsTrue, string_bytes};
-ghost use Rattle.serde_json.specs.Data.{string};
 ghost use Rattle.serde_json.specs.View.{view};
 ghost use Rattle.serde_json.specs.Written.{compact_text};
 ghost use Rattle.loom_engine.specs.Path.Route.{at_rest, settings};
 ghost use Rattle.loom_engine.specs.Path.WellFormed.{AreWellFormed};
-ghost use Rattle.loom.specs.Model.CoverText.{ApartLaw, IsCoverTextOf, IsNoCover, IsCoverOf, IsNoCoverText, SaysCover, cover_data, with_key, without_key};
+ghost use Rattle.loom.specs.Model.CoverText.{ApartLaw, IsCoverTextOf, IsNoCover, IsCoverOf, IsNoCoverText, SaysCover, cover_data};
 
+use crate::model::cover::keys::{with_key, without_key};
 use loom_engine::rt::path::checkpoint::error::PathError;
 use loom_engine::rt::path::{Path, Search};
-use serde_json::{Value, put};
+use serde_json::Value;
 use std::alloc::{AllocError, Global};
 
 // The key, and what it says.
@@ -23,21 +23,8 @@ pub fn to_text(alloc: Global, path: &Path) -> Result<String, AllocError>
     ensures text { IfOk result (λ text. string_bytes text ≡ compact_text (cover_data path.now.search path.now.explores path.now.nodes)) }
     ensures reads { IfOk result (λ text. AreWellFormed path.now.nodes → IsCoverTextOf path.now.search path.now.explores (string_bytes text) path.now.nodes) }
 {
-    with_search(alloc, path.to_value(alloc)?)?.to_string(alloc)
-}
-
-/// The object says besides that it is of a covering check.
-fn with_search(alloc: Global, value: Value) -> Result<Value, AllocError>
-    ensures { IfOk result (λ marked. view marked ≡ with_key (codes "search") (string (codes "cover")) (view value)) }
-{
-    match value {
-        Value::Object(mut members) => {
-            let cover = Value::try_from_str(alloc, COVER)?;
-            put(&mut members, alloc, KEY, cover)?;
-            Ok(Value::Object(members))
-        }
-        other => Ok(other),
-    }
+    let cover = Value::try_from_str(alloc, COVER)?;
+    with_key(alloc, KEY, cover, path.to_value(alloc)?)?.to_string(alloc)
 }
 
 /// The path of a covering check that a text holds, of such a search (own). The reasons to refuse one are those of a plain path's text;
@@ -62,7 +49,7 @@ fn from_value(alloc: Global, value: Value, search: Search) -> Result<Path, PathE
     if !says_cover(&value) {
         return Err(PathError::WrongShape);
     }
-    Path::from_value(alloc, &without_search(value), search)
+    Path::from_value(alloc, &without_key(KEY, value), search)
 }
 
 /// Whether an object says that it is of a covering check.
@@ -72,19 +59,6 @@ fn says_cover(value: &Value) -> bool
     match value.get(KEY).and_then(Value::as_str) {
         Some(said) => said == COVER,
         None => false,
-    }
-}
-
-/// What an object has besides.
-fn without_search(value: Value) -> Value
-    ensures { view result ≡ without_key (codes "search") (view value) }
-{
-    match value {
-        Value::Object(mut members) => {
-            drop(members.remove(KEY));
-            Value::Object(members)
-        }
-        other => other,
     }
 }
 
