@@ -18,7 +18,7 @@ use Rattle.loom_engine.specs.Parts.Keeping.{keys, part_of, views}
 use Rattle.loom_engine.specs.Covering.Covered.{IsEnd, IsGiven, ended, met as was_met}
 use Rattle.loom_engine.specs.Covering.Cut.{IsNoted, IsStop, with_run}
 use Rattle.loom_engine.specs.Covering.Sight.{seen_by}
-use Rattle.loom_engine.specs.Covering.Spread.{IsFull, Spread, SpreadBodyLaw, SpreadCoversLaw, SpreadLaw}
+use Rattle.loom_engine.specs.Covering.Spread.{IsFull, SpreadBodyLaw, SpreadCoversLaw, SpreadLaw}
 use Rattle.loom_engine.specs.Covering.States.{state_after}
 use Rattle.loom_engine.specs.Covering.Table.{HasState, IsAlong}
 use Rattle.loom_engine.specs.Covering.World.{World, world_of}

@@ -15,7 +15,7 @@ use Rattle.loom_engine.proofs.Walk.Resting.{after_resting}
 use Rattle.loom_engine.proofs.Walk.Stepping.{Steps}
 use Rattle.loom_engine.proofs.Walk.Left.{next_resting}
 use Rattle.loom_engine.proofs.Walk.Round.{fresh_law}
-use Rattle.loom_engine.specs.Parts.Cuts.{Part, IsIn, IsBelow, IsPart, IsTried, AreNotes, AreTaken, AreOpen, IsWithout, seal_at, Search}
+use Rattle.loom_engine.specs.Parts.Cuts.{Part, IsIn, IsBelow, IsPart, IsTried, AreNotes, AreTaken, AreOpen, IsWithout, Search}
 use Rattle.loom_engine.specs.Parts.Cuts as cuts
 use Rattle.loom_engine.specs.Parts.Floors.{seal_to, step_above, if_sealed, branch_off, end_with}
 use Rattle.loom_engine.specs.Parts.Works.{view, IsNotedIn, Gathers, Work, begin, turn, one_run, last_run, raise, hand_out, hand_out_value, drop_note, WorkLaw}

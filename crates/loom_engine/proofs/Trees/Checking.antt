@@ -9,7 +9,7 @@ use Rattle.loom_engine.specs.Walk.Runs.{Reachable}
 use Rattle.loom_engine.specs.Walk.Choices.{among, pick}
 use Rattle.loom_engine.specs.Walk.Path.{Stored, choices, IsResting, Rest, after_run, next, step}
 use Rattle.loom_engine.specs.Walk.Walks.{run_of, Rounds, stay, go_on, Completes, last_round, one_round, LeavesRest}
-use Rattle.loom_engine.specs.Walk.Lists.{Member, IsOnce, StandTogether, IsWalkList, IsAllowed}
+use Rattle.loom_engine.specs.Walk.Lists.{Member, IsWalkList, IsAllowed}
 use Rattle.loom_engine.proofs.Walk.Defaults.{over, run_is, ends_over, run_reached}
 use Rattle.loom_engine.proofs.Walk.Together.{complete_law as walk_complete, stopped_law as walk_stopped}
 use Rattle.loom_engine.proofs.Walk.Round.{round_law, fresh_law as walk_fresh}

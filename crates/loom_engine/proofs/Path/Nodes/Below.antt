@@ -1,5 +1,5 @@
 -- How many slots are below one.
-use Rattle.std.proofs.Common.{◌≡◌, ◌+◌, ◌<◌, ◌≤◌, ℕ, zero, suc, min, Bool, true, false, List, [], ◌∷◌, length, take, Some, refl, ap, sym, ◌∙◌, arith}
+use Rattle.std.proofs.Common.{◌≡◌, ◌+◌, ◌<◌, ◌≤◌, ℕ, zero, suc, min, Bool, true, false, List, [], ◌∷◌, length, take, ap, sym, ◌∙◌, arith}
 use Rattle.std.specs.Prelude.{slice_index_or, cond}
 use Rattle.loom_objects.specs.Tree.Stores.{slots_from, slots}
 

@@ -1,7 +1,6 @@
 -- A new schedule at a thread that was drawn: first its default is visited, and then the thread is the choice, which may be the default.
 use Rattle.std.proofs.Common.{◌≡◌, ◌⊎◌, ◌<◌, ℕ, zero, suc, Bool, true, false, List, [], ◌∷◌, length, map, Option, Some, None, inl, inr, refl, ap, sym, ◌∙◌, subst, arith}
 use Rattle.std.specs.Prelude.{slice_get, slice_set, IfSome, IsSomeAnd}
-use Rattle.loom_objects.specs.declared.choice.Choice.{Choice}
 use Rattle.loom_objects.specs.declared.choice.Choice.TheVariants.{Thread}
 use Rattle.loom_objects.specs.declared.rt.schedule.Ability.{Ability}
 use Rattle.loom_objects.specs.declared.rt.schedule.Ability.TheVariants.{Able}
@@ -15,7 +14,7 @@ use Rattle.loom_engine.specs.declared.rt.path.node.Schedule.{Schedule}
 use Rattle.loom_engine.specs.Path.Nodes.{active_thread, is_left, made_status, seen_threads, with_status}
 use Rattle.loom_engine.specs.Trees.Drive.{new_node}
 use Rattle.loom_engine.specs.Walk.Choices.{same}
-use Rattle.loom_engine.specs.Walk.Path.{IsAtRest, Stored, choose, fresh}
+use Rattle.loom_engine.specs.Walk.Path.{IsAtRest, Stored, fresh}
 use Rattle.loom_engine.proofs.Nodes.Nodes.Choosing.{chosen_is, chosen_rests}
 use Rattle.loom_engine.proofs.Nodes.Nodes.Statuses.{get_else}
 use Rattle.loom_engine.proofs.Path.Nodes.Given.{at_default, at_other}

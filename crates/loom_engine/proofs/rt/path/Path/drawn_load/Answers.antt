@@ -1,5 +1,4 @@
-use Rattle.std.proofs.Common.{◌≡◌, Bool, true, Some, ap, sym, ◌∙◌}
-use Rattle.loom_objects.specs.declared.choice.Choice.{Choice}
+use Rattle.std.proofs.Common.{Bool, true, Some, ap, sym, ◌∙◌}
 use Rattle.loom_objects.specs.Tree.Question.{made_of}
 use Rattle.loom_objects.specs.Tree.Stores.{which_store}
 use Rattle.loom_engine.specs.Path.Nodes.{seen_load}

@@ -1,4 +1,4 @@
-use Rattle.std.proofs.Common.{◌≡◌, [], Bool, Some, ap, sym, ◌∙◌}
+use Rattle.std.proofs.Common.{[], Bool, Some, ap, sym, ◌∙◌}
 use Rattle.loom_objects.specs.declared.choice.Choice.{Choice}
 use Rattle.loom_objects.specs.Exploring.{is_on}
 use Rattle.loom_objects.specs.Tree.Asked.{which_thread}

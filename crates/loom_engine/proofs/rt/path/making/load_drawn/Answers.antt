@@ -1,11 +1,7 @@
-use Rattle.std.proofs.Common.{◌≡◌, Some, refl, ap, ◌∙◌, sym, length, take, arith}
+use Rattle.std.proofs.Common.{◌≡◌, Some, refl, ap, ◌∙◌, length, take, arith}
 use Rattle.std.specs.Prelude.{slice_get}
-use Rattle.loom_objects.specs.declared.choice.Choice.TheVariants as choice
-use Rattle.loom_objects.specs.Tree.Question.{made_of}
-use Rattle.loom_objects.specs.Tree.Stores.{slots, which_store}
-use Rattle.loom_engine.specs.Path.Nodes.{seen_load}
+use Rattle.loom_objects.specs.Tree.Stores.{slots}
 use Rattle.loom_engine.proofs.Nodes.Nodes.Slots.{get_slot, load_given, slot_place}
-use Rattle.loom_engine.proofs.Nodes.Nodes.Turns.{new_is_made}
 use Rattle.loom_engine.proofs.rt.path.making.load_drawn.Goals as goal
 
 pub returns-clause-made : goal.returns-clause-made

@@ -1,4 +1,4 @@
-use Rattle.std.proofs.Common.{◌≡◌, ◌++◌, ◌∷◌, [], List, ap, ◌∙◌, inl}
+use Rattle.std.proofs.Common.{◌≡◌, ◌++◌, ◌∷◌, [], ap, ◌∙◌, inl}
 use Rattle.loom_engine.specs.Covering.Kept.{Noted}
 use Rattle.loom_engine.proofs.rt.states.States.add.Goals.{in-Some, in_default}
 use Rattle.loom_engine.proofs.rt.states.States.add.Goals as goal

@@ -1,4 +1,4 @@
-use Rattle.std.proofs.Common.{◌≡◌, ◌∙◌, ◌<◌, ◌^◌, ℕ, [], ◌∷◌, ap, arith, subst, sym}
+use Rattle.std.proofs.Common.{◌∙◌, ◌<◌, ◌^◌, ℕ, ap, arith, subst, sym}
 use Rattle.loom_views.specs.Lanes.{counts_in}
 use Rattle.loom_views.specs.Versions.{IsCounted}
 use Rattle.loom_views.proofs.Views.Lanes.{counts_of}
