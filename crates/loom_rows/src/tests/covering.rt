@@ -26,13 +26,13 @@ use std::process::Abort;
 use std::sync::atomic::Ordering;
 
 // How many runs a whole search may have here.
-const MOST: usize = 1000;
+pub(super) const MOST: usize = 1000;
 
 // How many states are remembered. Some of these searches come to more, and then find the same.
 const MOST_REMEMBERED: usize = 64;
 
 // Whether both have the same values, in any order and number.
-fn are_values_same(alloc: Global, one: &[Found], other: &[Found]) -> bool {
+pub(super) fn are_values_same(alloc: Global, one: &[Found], other: &[Found]) -> bool {
     let mut first = Page::new(alloc);
     let mut second = Page::new(alloc);
     put_values(alloc, &mut first, one);
@@ -41,7 +41,7 @@ fn are_values_same(alloc: Global, one: &[Found], other: &[Found]) -> bool {
 }
 
 // Whether a run is made by these choices that fails so.
-fn is_replayed<B: Body<Data = u64>>(
+pub(super) fn is_replayed<B: Body<Data = u64>>(
     alloc: Global,
     settings: Settings,
     body: &B,
@@ -60,7 +60,7 @@ fn is_replayed<B: Body<Data = u64>>(
     }
 }
 
-fn is_failing(found: &[Found]) -> bool {
+pub(super) fn is_failing(found: &[Found]) -> bool {
     match found.last() {
         Some(run) => matches!(run.ending, Ending::Failed(_)),
         None => false,
@@ -68,7 +68,7 @@ fn is_failing(found: &[Found]) -> bool {
 }
 
 // Whether the last run was longer than a run may be. A search that remembers states may say more of it.
-fn is_cut(found: &[Found]) -> bool {
+pub(super) fn is_cut(found: &[Found]) -> bool {
     let Some(run) = found.last() else {
         return false;
     };

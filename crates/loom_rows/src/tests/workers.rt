@@ -22,9 +22,19 @@ use std::thread::Threads;
 
 /// Keeps what the visitors of parts were given.
 #[derive(Drop)]
-struct Keepers {
+pub(super) struct Keepers {
     alloc: Global,
-    found: Vec<Found>,
+    pub(super) found: Vec<Found>,
+}
+
+impl Keepers {
+    /// None was given any run yet.
+    pub(super) fn new(alloc: Global) -> Keepers {
+        Keepers {
+            alloc,
+            found: Vec::new(alloc),
+        }
+    }
 }
 
 impl Visitors<Keeper> for Keepers {
@@ -81,10 +91,7 @@ fn make<R: Threads + Wait + Clock + Sync, B: Body<Data = u64> + Apart + Sync>(
     count: usize,
     runs: &[Found],
 ) -> bool {
-    let mut keepers = Keepers {
-        alloc,
-        found: Vec::new(alloc),
-    };
+    let mut keepers = Keepers::new(alloc);
     match find(rt, alloc, builder, body, count, &mut keepers) {
         Ok(Came::Complete { .. }) => {
             are_of(keepers.found.as_slice(), runs) && keepers.found.len() == runs.len()
