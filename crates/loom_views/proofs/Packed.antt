@@ -1,5 +1,5 @@
 -- One object more, in little room.
-use Rattle.std.proofs.Common.{◌≡◌, ◌≤◌, ◌+◌, ◌-◌, ℕ, arith, List, [], ◌∷◌, ◌++◌, length, take, drop, replicate, refl, ap, ap₂, sym, ◌∙◌, append-nil}
+use Rattle.std.proofs.Common.{◌≡◌, ◌≤◌, ◌<◌, ◌+◌, ◌-◌, ℕ, zero, suc, arith, List, [], ◌∷◌, ◌++◌, length, take, drop, replicate, refl, ap, ap₂, sym, ◌∙◌, subst, append-nil}
 use Rattle.std.proofs.lemmas.List.{drop-append-le, length-append, length-drop, length-take-le, take-append-drop, take-append-le, take_all}
 use Rattle.loom_views.specs.declared.rt.atomic.Head.{Head}
 use Rattle.loom_views.specs.declared.rt.atomic.State.{State}
@@ -8,7 +8,11 @@ use Rattle.loom_views.specs.declared.rt.views.Kept.{Kept}
 use Rattle.loom_views.specs.declared.rt.views.Kept.TheVariants as kept
 use Rattle.loom_views.specs.declared.rt.views.packed.Packed.{Packed}
 use Rattle.loom_views.specs.declared.rt.views.packed.Packed.TheVariants.{Point, Atomic, Cell}
+use Rattle.loom_views.specs.Atomic.Ring.{store_at}
+use Rattle.loom_views.specs.Atomic.Touches.{untouched}
+use Rattle.loom_views.specs.InOrder.{PairAll, PairsStores, PairsTouches, PairsVectors}
 use Rattle.loom_views.specs.Packed.{all_stores, empty_store, unpacked, whole}
+use Rattle.loom_views.specs.Versions.{zeros}
 
 pub all_pushed : (list : List Packed) (one : Packed) → all_stores (list ++ one ∷ []) ≡ all_stores list + all_stores (one ∷ [])
 all_pushed [] one = omega arith
@@ -63,3 +67,47 @@ filled_all stores size = sym (append-nil (take 7 stores) ∙ take_all 7 stores (
 
 pub empty_more : (stores tail : List Store) (first : Store) → stores ≡ first ∷ tail → first ≡ empty_store → tail ≡ replicate (length tail) empty_store → stores ≡ replicate (length stores) empty_store
 empty_more stores tail first split same rest = split ∙ ap₂ (λ (s : Store) (l : List Store). s ∷ l) same rest ∙ sym (ap (λ (l : List Store). replicate (length l) empty_store) split)
+
+-- ---- by ranks
+
+zero_counts : (R : ℕ → ℕ → ℕ → Type 0) → ((t : ℕ) → t < 5 → R t 0 0) → PairsVectors R zeros zeros
+zero_counts R none zero l = none 0 l
+zero_counts R none (suc zero) l = none 1 l
+zero_counts R none (suc (suc zero)) l = none 2 l
+zero_counts R none (suc (suc (suc zero))) l = none 3 l
+zero_counts R none (suc (suc (suc (suc zero)))) l = none 4 l
+zero_counts R none (suc (suc (suc (suc (suc t))))) l = absurd (omega (arith, l))
+
+no_touches : (R : ℕ → ℕ → ℕ → Type 0) → PairsTouches R untouched untouched
+no_touches R zero l = tt
+no_touches R (suc zero) l = tt
+no_touches R (suc (suc zero)) l = tt
+no_touches R (suc (suc (suc zero))) l = tt
+no_touches R (suc (suc (suc (suc zero)))) l = tt
+no_touches R (suc (suc (suc (suc (suc t))))) l = absurd (omega (arith, l))
+
+-- where nothing is stored it stays so
+empty_pair : (R : ℕ → ℕ → ℕ → Type 0) → ((t : ℕ) → t < 5 → R t 0 0) → PairsStores R empty_store empty_store
+empty_pair R none = record { value = refl; order = zero_counts R none; sync = zero_counts R none; seq_cst = refl; first_seen = no_touches R }
+
+empties_pair : (R : ℕ → ℕ → ℕ → Type 0) → ((t : ℕ) → t < 5 → R t 0 0) → (n i : ℕ) → i < n → PairsStores R (store_at (replicate n empty_store) i) (store_at (replicate n empty_store) i)
+empties_pair R none zero i l = absurd (omega (arith, l))
+empties_pair R none (suc n) zero l = empty_pair R none
+empties_pair R none (suc n) (suc i) l = empties_pair R none n i (omega (arith, l))
+
+behind_pair : (R : ℕ → ℕ → ℕ → Type 0) (stores more rest : List Store) → PairAll R (PairsStores R) stores more → (n : ℕ) → ((i : ℕ) → i < n → PairsStores R (store_at rest i) (store_at rest i)) → (i : ℕ) → i < length stores + n
+    → PairsStores R (store_at (stores ++ rest) i) (store_at (more ++ rest) i)
+behind_pair R [] [] rest h n same i l = let k : i < n = omega (arith, l) in same i k
+behind_pair R [] (m ∷ more) rest h n same i l = absurd (let e = h.count in omega (arith, e))
+behind_pair R (s ∷ stores) [] rest h n same i l = absurd (let e = h.count in omega (arith, e))
+behind_pair R (s ∷ stores) (m ∷ more) rest h n same zero l = h.each 0
+behind_pair R (s ∷ stores) (m ∷ more) rest h n same (suc i) l = behind_pair R stores more rest (record { count = (let e = h.count in omega (arith, e)); each = λ k. h.each (suc k) }) n same i (omega (arith, l))
+
+-- an atomic's stores pair with those that are put behind others by ranks
+pub stores_pair : (R : ℕ → ℕ → ℕ → Type 0) → ((t : ℕ) → t < 5 → R t 0 0) → (stores more : List Store) (k : ℕ) → k ≤ 7 → length (take k stores) ≡ k → stores ≡ take k stores ++ replicate (7 - k) empty_store → PairAll R (PairsStores R) (take k stores) more
+    → (i : ℕ) → i < 7 → PairsStores R (store_at stores i) (store_at (more ++ replicate (7 - length more) empty_store) i)
+stores_pair R none stores more k few size filled pairs i l =
+    let so : length more ≡ k = sym pairs.count ∙ size in
+    subst (λ (xs : List Store). PairsStores R (store_at xs i) (store_at (more ++ replicate (7 - length more) empty_store) i)) (sym filled)
+    (subst (λ (n : ℕ). PairsStores R (store_at (take k stores ++ replicate (7 - k) empty_store) i) (store_at (more ++ replicate (7 - n) empty_store) i)) (sym so)
+    (behind_pair R (take k stores) more (replicate (7 - k) empty_store) pairs (7 - k) (empties_pair R none (7 - k)) i (omega (arith, l, size, few))))

@@ -3,13 +3,11 @@ use Rattle.std.proofs.Common.{zero, suc, ◌≡◌, ℕ, ◌+◌, ◌<◌, ◌�
 use Rattle.std.specs.Prelude.{nat_le, slice_get, slice_index}
 use Rattle.std.specs.List.{AllByRecursion}
 use Rattle.std.proofs.lemmas.Bool.{cases_eq, le-leb, lt-leb}
-use Rattle.std.proofs.lemmas.List.{get_or_default, length_push}
+use Rattle.std.proofs.lemmas.List.{length_push}
 use Rattle.loom_views.specs.Limits.{highest_version}
 use Rattle.loom_views.specs.Versions.{IsCounted}
-use Rattle.loom_views.specs.InOrder.{AreRising, IsRising, PairsAt, PairsVectors, PairsCounts, PairsStores, PairAll, PairsViews, IsInOrder, Ranked, rank_at, rank_in}
+use Rattle.loom_views.specs.InOrder.{AreRising, IsRising, PairsAt, PairsVectors, PairsCounts, PairAll, PairsViews, IsInOrder, Ranked, rank_at, rank_in}
 use Rattle.loom_views.specs.declared.rt.views.Views.{Views}
-use Rattle.loom_views.specs.declared.rt.atomic.Store.{Store}
-use Rattle.loom_views.specs.Atomic.Ring.{blank_store, store_at}
 use Rattle.loom_views.specs.Lanes.{counts_in}
 use Rattle.loom_views.proofs.Atomic.Table.Lists.{get-append_same, get-append_other}
 use Rattle.loom_views.proofs.Sight.Shapes.{is_there}
@@ -113,21 +111,6 @@ rank_next xs ys n m e f h = rw (e, f) (with_rank xs n h)
 
 pub rank_none : (xs ys : List (Option ℕ)) (n m : ℕ) → ys ≡ xs ++ None ∷ [] → m ≡ n → AreRising xs × AreBelow n xs → AreRising ys × AreBelow m ys
 rank_none xs ys n m e f h = rw (e, f) (without_rank xs n h)
-
--- a kept store pairs, however it was read
-read_store : (R : ℕ → ℕ → ℕ → Type 0) (xs : List Store) (i : ℕ) (d a : Store) → i < length xs → PairsStores R (get_or xs i d) a → PairsStores R (store_at xs i) a
-read_store R xs i d a l p = subst (λ (x : Store). PairsStores R x a) (get_or_default xs i d blank_store l) p
-
-pub seven_stores : (R : ℕ → ℕ → ℕ → Type 0) (xs : List Store) (v w x y z s t a b c d e f g : Store) → length xs ≡ 7 → PairsStores R (get_or xs 0 v) a → PairsStores R (get_or xs 1 w) b → PairsStores R (get_or xs 2 x) c → PairsStores R (get_or xs 3 y) d
-    → PairsStores R (get_or xs 4 z) e → PairsStores R (get_or xs 5 s) f → PairsStores R (get_or xs 6 t) g → (i : ℕ) → i < 7 → PairsStores R (store_at xs i) (store_at (a ∷ b ∷ c ∷ d ∷ e ∷ f ∷ g ∷ []) i)
-seven_stores R xs v w x y z s t a b c d e f g n h₀ h₁ h₂ h₃ h₄ h₅ h₆ zero l = read_store R xs 0 v a (omega arith) h₀
-seven_stores R xs v w x y z s t a b c d e f g n h₀ h₁ h₂ h₃ h₄ h₅ h₆ (suc zero) l = read_store R xs 1 w b (omega arith) h₁
-seven_stores R xs v w x y z s t a b c d e f g n h₀ h₁ h₂ h₃ h₄ h₅ h₆ (suc (suc zero)) l = read_store R xs 2 x c (omega arith) h₂
-seven_stores R xs v w x y z s t a b c d e f g n h₀ h₁ h₂ h₃ h₄ h₅ h₆ (suc (suc (suc zero))) l = read_store R xs 3 y d (omega arith) h₃
-seven_stores R xs v w x y z s t a b c d e f g n h₀ h₁ h₂ h₃ h₄ h₅ h₆ (suc (suc (suc (suc zero)))) l = read_store R xs 4 z e (omega arith) h₄
-seven_stores R xs v w x y z s t a b c d e f g n h₀ h₁ h₂ h₃ h₄ h₅ h₆ (suc (suc (suc (suc (suc zero))))) l = read_store R xs 5 s f (omega arith) h₅
-seven_stores R xs v w x y z s t a b c d e f g n h₀ h₁ h₂ h₃ h₄ h₅ h₆ (suc (suc (suc (suc (suc (suc zero)))))) l = read_store R xs 6 t g (omega arith) h₆
-seven_stores R xs v w x y z s t a b c d e f g n h₀ h₁ h₂ h₃ h₄ h₅ h₆ (suc (suc (suc (suc (suc (suc (suc i))))))) l = absurd (omega arith)
 
 -- one more beside one more
 pub pair_next : {X : Type 0} (R : ℕ → ℕ → ℕ → Type 0) (Pairs : X → X → Type 0) (vs ws more : List X) (i : ℕ) (v w : X) → i < length vs → more ≡ ws ++ w ∷ [] → PairAll R Pairs (take i vs) ws → v ≡ get_or vs i v → Pairs v w → PairAll R Pairs (take (i + 1) vs) more

@@ -8,7 +8,7 @@ pub mod touches;
 
 ghost use Rattle.std.specs.Prelude.{◌≡◌, ℕ, ◌+◌, ◌-◌, ◌<◌, ◌≤◌, ◌==◌, ◌&&◌, ◌++◌, not, min, IfOk, IsTrue, List, take, replicate, None, slice_index_or, false, MatchResult, OnErr, Ok, Err, length, IfSome};
 ghost use Rattle.std.specs.List.{list_any};
-ghost use Rattle.loom_views.specs.InOrder.{PairsTouches, PairsStores, PairsStates, Ranked};
+ghost use Rattle.loom_views.specs.InOrder.{PairAll, PairsTouches, PairsStores, PairsStates, Ranked};
 ghost use Rattle.loom_views.specs.Limits.{highest_version, most_stores};
 ghost use Rattle.loom_views.specs.Packed.{empty_store, whole};
 ghost use Rattle.loom_views.specs.declared.rt.atomic.Store.{Store};
@@ -638,24 +638,21 @@ impl Store {
     }
 }
 
-/// The kept stores by ranks, if each count has one.
-#[inline(always)]
-fn ranked_stores(
-    stores: &[Store; MAX_ATOMIC_HISTORY],
+/// Puts the stores by ranks behind these. Whether each count had one. An error where memory is refused.
+fn push_ranked(
+    from: &[Store],
     ranks: &Ranks,
-) -> Option<[Store; MAX_ATOMIC_HISTORY]>
-    ensures { IfSome result (λ ranked. (i : ℕ) → i < 7 → PairsStores (Ranked ranks.now) (store_at stores.now i) (store_at ranked i)) }
+    stores: &mut Sequence<Store>,
+) -> Result<bool, AllocError>
+    ensures { IfOk result (λ done. IsTrue done → (more : List Store) × (stores.new ≡ stores.old ++ more) × PairAll (Ranked ranks.now) (PairsStores (Ranked ranks.now)) from.now more) }
 {
-    let [zeroth, first, second, third, fourth, fifth, sixth] = stores;
-    Some([
-        zeroth.ranked(ranks)?,
-        first.ranked(ranks)?,
-        second.ranked(ranks)?,
-        third.ranked(ranks)?,
-        fourth.ranked(ranks)?,
-        fifth.ranked(ranks)?,
-        sixth.ranked(ranks)?,
-    ])
+    for store in from {
+        let Some(one) = store.ranked(ranks) else {
+            return Ok(false);
+        };
+        stores.push(one)?;
+    }
+    Ok(true)
 }
 
 impl State {
@@ -665,25 +662,51 @@ impl State {
         standing.add_all(&self.stored_at);
         standing.add_all(&self.unsync_loaded_at);
         standing.add_all(&self.unsync_mut_at);
-        for store in self.stores.as_slice() {
-            store.stand(standing);
+        for place in 0..self.kept() {
+            self.stores[place].stand(standing);
         }
     }
 
-    /// The atomic by ranks, if each count has one (own).
+    /// What is kept but for the stores, of which so many aren't empty, by ranks, if each count has one.
     #[inline(always)]
-    pub fn ranked(&self, ranks: &Ranks) -> Option<State>
-        ensures { IfSome result (λ ranked. PairsStates (Ranked ranks.now) self.now ranked) }
+    fn ranked_head(&self, kept: usize, ranks: &Ranks) -> Option<Head>
+        ensures kept { IfSome result (λ head. head.kept ≡ kept) }
+        ensures paired { IfSome result (λ head. (more : List Store) → ((i : ℕ) → i < 7 → PairsStores (Ranked ranks.now) (store_at self.now.stores i) (store_at (whole head more).stores i)) → PairsStates (Ranked ranks.now) self.now (whole head more)) }
     {
-        Some(State {
-            loaded_at: self.loaded_at.ranked(ranks)?,
-            stored_at: self.stored_at.ranked(ranks)?,
-            unsync_loaded_at: self.unsync_loaded_at.ranked(ranks)?,
-            unsync_mut_at: self.unsync_mut_at.ranked(ranks)?,
+        let loaded_at = self.loaded_at.ranked(ranks)?;
+        let stored_at = self.stored_at.ranked(ranks)?;
+        let unsync_loaded_at = self.unsync_loaded_at.ranked(ranks)?;
+        let unsync_mut_at = self.unsync_mut_at.ranked(ranks)?;
+        Some(Head {
+            loaded_at,
+            stored_at,
+            unsync_loaded_at,
+            unsync_mut_at,
             is_mutating: self.is_mutating,
-            stores: ranked_stores(&self.stores, ranks)?,
             count: self.count,
+            kept,
         })
+    }
+
+    /// `pack` of the atomic by ranks, if each count has one (own).
+    #[inline(always)]
+    pub fn pack_ranked(
+        &self,
+        ranks: &Ranks,
+        stores: &mut Sequence<Store>,
+    ) -> Result<Option<Head>, AllocError>
+        ensures { IfOk result (λ found. IfSome found (λ head. (more : List Store) × (stores.new ≡ stores.old ++ more) × (head.kept ≡ length more) × PairsStates (Ranked ranks.now) self.now (whole head more))) }
+    {
+        ranks.zeros();
+        let kept = self.filled();
+        let Some(head) = self.ranked_head(kept, ranks) else {
+            return Ok(None);
+        };
+        let is_done = push_ranked(&self.stores.as_slice()[..kept], ranks, stores)?;
+        if !is_done {
+            return Ok(None);
+        }
+        Ok(Some(head))
     }
 
     /// How many stores there are up to the last one that isn't empty, or all.

@@ -14,14 +14,16 @@ use std::marker::Model;
 // counts below this have ranks
 const RANKED: usize = 512;
 
-// of each thread as many
-const PLACES: usize = 2560;
+// of each thread so many words, with a bit for each of these counts
+const WORDS: usize = 8;
+
+const ALL_WORDS: usize = 40;
 
 /// Which counts of each thread stand somewhere in some views, of those below 512 (own).
 #[derive(Drop)]
 pub struct Standing {
     // those of one thread behind those of the thread before it
-    stands: [bool; PLACES],
+    stands: [u64; ALL_WORDS],
     // none stands from here on
     end: usize,
 }
@@ -30,7 +32,7 @@ impl Standing {
     /// The count 0 of each thread, which stands wherever nothing has come (own).
     pub fn new() -> Standing {
         let mut standing = Standing {
-            stands: [false; PLACES],
+            stands: [0; ALL_WORDS],
             end: 0,
         };
         for thread in 0..MAX_THREADS {
@@ -45,7 +47,7 @@ impl Standing {
         if thread >= MAX_THREADS || place >= RANKED {
             return;
         }
-        self.stands[thread * RANKED + place] = true;
+        self.stands[thread * WORDS + place / 64] |= 1 << (place % 64);
         if self.end <= place {
             self.end = place + 1;
         }
@@ -69,59 +71,60 @@ impl Standing {
         }
     }
 
+    /// Whether a count of a thread stands.
+    fn stands(&self, thread: usize, count: usize) -> bool {
+        if thread >= MAX_THREADS || count >= RANKED {
+            return false;
+        }
+        (self.stands[thread * WORDS + count / 64] >> (count % 64)) % 2 == 1
+    }
+
     /// The ranks of these counts. An error where memory is refused (own).
     pub fn ranks(&self, alloc: Global) -> Result<Option<Ranks>, AllocError>
         ensures { IfOk result (λ found. IfSome found (λ ranks. IsRising (Ranked ranks))) }
     {
-        let threads = self.table(alloc)?;
+        let threads = [
+            self.ranks_of(alloc, 0)?,
+            self.ranks_of(alloc, 1)?,
+            self.ranks_of(alloc, 2)?,
+            self.ranks_of(alloc, 3)?,
+            self.ranks_of(alloc, 4)?,
+        ];
         if !have_zeros(&threads) {
             return Ok(None);
         }
         Ok(Some(Ranks { threads }))
     }
 
-    /// For each thread, the ranks of its counts. An error where memory is refused.
-    #[tactic(auto, using(crate::proofs::Ranks::all_more, crate::proofs::Ranks::all_rising))]
-    fn table(&self, alloc: Global) -> Result<Sequence<Sequence<Option<u16>>>, AllocError>
-        ensures { IfOk result (λ ranks. IsRising (Ranked ranks)) }
+    /// The ranks of a thread's counts: each that stands has one. An error where memory is refused.
+    #[tactic(auto, using(crate::proofs::Ranks::none_rising, crate::proofs::Ranks::none_below))]
+    fn ranks_of(&self, alloc: Global, thread: usize) -> Result<Sequence<Option<u16>>, AllocError>
+        ensures { IfOk result (λ ranks. AreRising ranks) }
     {
         let end = self.end.min(RANKED);
-        let mut ranks = Vec::with_capacity(alloc, MAX_THREADS)?;
-        for thread in 0..MAX_THREADS {
-            let start = thread * RANKED;
-            ranks.push(ranks_of(alloc, &self.stands[start..start + end])?)?;
+        let mut ranks = Vec::with_capacity(alloc, end)?;
+        let mut next: u16 = 0;
+        for count in 0..end {
+            if self.stands(thread, count) && next < MAX_VERSION {
+                ranks.push(Some(next))?;
+                next += 1;
+            } else {
+                ranks.push(None)?;
+            }
         }
         Ok(Sequence::from_vec(ranks))
     }
 }
 
-/// The ranks of a thread's counts: each that stands has one. An error where memory is refused.
-#[tactic(auto, using(crate::proofs::Ranks::none_rising, crate::proofs::Ranks::none_below))]
-fn ranks_of(alloc: Global, stands: &[bool]) -> Result<Sequence<Option<u16>>, AllocError>
-    ensures { IfOk result (λ ranks. AreRising ranks) }
-{
-    let mut ranks = Vec::with_capacity(alloc, stands.len())?;
-    let mut next: u16 = 0;
-    for stand in stands {
-        if *stand && next < MAX_VERSION {
-            ranks.push(Some(next))?;
-            next += 1;
-        } else {
-            ranks.push(None)?;
-        }
-    }
-    Ok(Sequence::from_vec(ranks))
-}
-
 /// The rank of a thread's count in such a table, if it has one.
-fn rank_in(threads: &Sequence<Sequence<Option<u16>>>, thread: usize, count: u16) -> Option<u16>
+fn rank_in(threads: &[Sequence<Option<u16>>; MAX_THREADS], thread: usize, count: u16) -> Option<u16>
     ensures ranked { IfSome result (λ rank. Ranked threads.now thread count rank) }
     ensures most { IfSome result (λ rank. rank ≤ highest_version) }
 {
-    if thread >= threads.len() {
+    if thread >= MAX_THREADS {
         return None;
     }
-    let ranks = threads.at(thread);
+    let ranks = &threads[thread];
     let place = usize::from(count);
     if place >= ranks.len() {
         return None;
@@ -133,7 +136,7 @@ fn rank_in(threads: &Sequence<Sequence<Option<u16>>>, thread: usize, count: u16)
 }
 
 /// Whether the count 0 of each thread has the rank 0 there.
-fn have_zeros(threads: &Sequence<Sequence<Option<u16>>>) -> bool
+fn have_zeros(threads: &[Sequence<Option<u16>>; MAX_THREADS]) -> bool
     ensures { IsTrue result → (t : ℕ) → t < 5 → Ranked threads.now t 0 0 }
 {
     for thread in 0..MAX_THREADS {
@@ -147,7 +150,7 @@ fn have_zeros(threads: &Sequence<Sequence<Option<u16>>>) -> bool
 /// For each thread, the ranks of its counts. The count 0 has the rank 0 (own).
 #[derive(Drop)]
 pub struct Ranks {
-    threads: Sequence<Sequence<Option<u16>>>,
+    threads: [Sequence<Option<u16>>; MAX_THREADS],
 }
 
 impl Model for Ranks {

@@ -11,7 +11,6 @@ pub mod ranked;
 ghost use Rattle.std.specs.Prelude.{ℕ, IfSome, ◌≡◌, ◌++◌, ◌∷◌, ◌<◌, ◌≤◌, [], Ok, Err, IfOk, OnErr, OnOk, length, slice_get};
 ghost use Rattle.loom_views.specs.declared.rt.failure.FailureKind.TheVariants.{Misuse};
 ghost use Rattle.loom_views.specs.declared.rt.views.Kept.TheVariants.{Point};
-ghost use Rattle.loom_views.specs.InOrder.{PairsPlaces, Ranked};
 ghost use Rattle.loom_views.specs.Versions.{zeros};
 ghost use Rattle.loom_views.specs.Views.{Points, ShowsViews, MovesAs, LoadsAs, StoresAs, OffersAs, IsSlotKept, opening, points_after_raise, points_after_acquire, points_after_release, points_after_release_fence, points_after_yield, points_with_point, points_with_stamp, points_after_stamp, points_after_stamp_release, points_after_stamp_acquire, points_after_spawn, points_after_join, points_with_atomic, points_after_load, points_after_store, points_after_update_read, points_after_update_write, points_after_update_fail, points_after_unsync_load, points_after_with_mut, points_after_with_mut_end, points_after_acquire_fence, points_after_meet_global, points_after_fence, points_with_cell, points_after_read, points_after_write, readable_slots_of};
 
@@ -19,7 +18,7 @@ use crate::rt::atomic::State;
 use crate::rt::atomic::reader::Reader;
 use crate::rt::cell::AccessRecords;
 use crate::rt::failure::FailureKind;
-use crate::rt::ranks::{Ranks, Standing};
+use crate::rt::ranks::Standing;
 use crate::rt::synchronize::{Synchronize, ThreadViews};
 use crate::rt::views::places::Places;
 use crate::rt::vv::VersionVec;
@@ -567,19 +566,6 @@ impl Kept {
             Kept::Point(view) => view.stand(standing),
             Kept::Atomic(state) => state.stand(standing),
             Kept::Cell(records) => records.stand(standing),
-        }
-    }
-
-    /// What is kept by ranks, if each count has one.
-    // Inlined, as what it calls: so what is kept is written where it is to stand, and isn't moved.
-    #[inline(always)]
-    fn ranked(&self, ranks: &Ranks) -> Option<Kept>
-        ensures { IfSome result (λ ranked. PairsPlaces (Ranked ranks.now) self.now ranked) }
-    {
-        match self {
-            Kept::Point(view) => Some(Kept::Point(view.ranked(ranks)?)),
-            Kept::Atomic(state) => Some(Kept::Atomic(state.ranked(ranks)?)),
-            Kept::Cell(records) => Some(Kept::Cell(records.ranked(ranks)?)),
         }
     }
 }

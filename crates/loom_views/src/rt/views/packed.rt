@@ -1,11 +1,14 @@
 //! What is kept of each object of a run, in little room: of an atomic no stores behind the last one that isn't empty.
 
-ghost use Rattle.std.specs.Prelude.{◌≡◌, ◌++◌, ◌∷◌, [], IfOk, length};
+ghost use Rattle.std.specs.Prelude.{◌≡◌, ◌++◌, ◌∷◌, [], IfOk, IfSome, length};
+ghost use Rattle.loom_views.specs.InOrder.{PairsPlaces, PairsStates, Ranked};
 ghost use Rattle.loom_views.specs.Packed.{all_stores, unpacked};
+ghost use Rattle.loom_views.specs.declared.rt.atomic.State.{State as Atomics};
 ghost use Rattle.loom_views.specs.declared.rt.views.Kept.TheVariants.{Atomic};
 
 use crate::rt::atomic::{Head, State, Store};
 use crate::rt::cell::AccessRecords;
+use crate::rt::ranks::Ranks;
 use crate::rt::synchronize::Synchronize;
 use crate::rt::views::Kept;
 use crate::rt::vv::mixed;
@@ -112,6 +115,25 @@ impl PackedPlaces {
         }
     }
 
+    /// With one object more, of which this is kept by ranks, if each count has one. An error where memory is refused (own).
+    #[inline(always)]
+    pub fn with_ranked(self, kept: &Kept, ranks: &Ranks) -> Result<Option<PackedPlaces>, AllocError>
+        ensures { IfOk result (λ found. IfSome found (λ more. (one : Kept) × PairsPlaces (Ranked ranks.now) kept.now one × (more ≡ self ++ one ∷ []))) }
+    {
+        let PackedPlaces { list, stores } = self;
+        match kept {
+            Kept::Point(view) => match view.ranked(ranks) {
+                Some(one) => Ok(Some(with_other(list, stores, Packed::Point(one))?)),
+                None => Ok(None),
+            },
+            Kept::Cell(records) => match records.ranked(ranks) {
+                Some(one) => Ok(Some(with_other(list, stores, Packed::Cell(one))?)),
+                None => Ok(None),
+            },
+            Kept::Atomic(state) => with_ranked_atomic(list, stores, state, ranks),
+        }
+    }
+
     /// A copy. An error where memory is refused (own).
     pub fn try_clone(&self, alloc: Global) -> Result<PackedPlaces, AllocError>
         ensures { IfOk result (λ copy. copy ≡ self.now) }
@@ -163,4 +185,23 @@ fn with_atomic(
     let head = state.pack(&mut stores)?;
     list.push(Packed::Atomic(head))?;
     Ok(PackedPlaces { list, stores })
+}
+
+/// With an atomic more, by ranks, if each count has one.
+#[inline(always)]
+fn with_ranked_atomic(
+    mut list: Sequence<Packed>,
+    mut stores: Sequence<Store>,
+    state: &State,
+    ranks: &Ranks,
+) -> Result<Option<PackedPlaces>, AllocError>
+    requires counted { all_stores list ≡ length stores }
+    ensures { IfOk result (λ found. IfSome found (λ more. (one : Atomics) × PairsStates (Ranked ranks.now) state.now one × (more ≡ unpacked list stores ++ Atomic one ∷ []))) }
+{
+    let found = state.pack_ranked(ranks, &mut stores)?;
+    let Some(head) = found else {
+        return Ok(None);
+    };
+    list.push(Packed::Atomic(head))?;
+    Ok(Some(PackedPlaces { list, stores }))
 }

@@ -199,10 +199,10 @@ fn ranked_places(
 {
     let mut ranked = spare.cleared();
     for kept in places {
-        let Some(one) = kept.ranked(ranks) else {
+        let found = ranked.with_ranked(kept, ranks)?;
+        let Some(more) = found else {
             return Ok(None);
         };
-        let more = ranked.with(one)?;
         ranked = more;
     }
     Ok(Some(ranked))
