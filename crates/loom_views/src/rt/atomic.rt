@@ -45,10 +45,10 @@ pub struct FirstSeen {
 /// A store that is kept (loom's `rt/atomic.rs`).
 #[derive(Clone, Copy)]
 pub struct Store {
-    value: u64,
     order: VersionVec,
     sync: Synchronize,
     first_seen: FirstSeen,
+    value: u64,
     seq_cst: bool,
 }
 
