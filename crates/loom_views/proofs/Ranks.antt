@@ -1,20 +1,16 @@
 -- Ranks of counts: a table of them, one count after another, and what they leave of views.
-use Rattle.std.proofs.Common.{zero, suc, ◌≡◌, ℕ, ◌+◌, ◌<◌, ◌≤◌, List, [], ◌∷◌, ◌++◌, length, take, take-suc, get_or, refl, ap, sym, ◌∙◌, arith, subst, ◌⊎◌, inl, inr, ⊎_elim, Option, Some, None}
+use Rattle.std.proofs.Common.{zero, suc, ◌≡◌, ℕ, ◌+◌, ◌<◌, ◌≤◌, List, [], ◌∷◌, ◌++◌, length, map, replicate, set, take, take-suc, get_or, option_map, refl, ap, sym, ◌∙◌, arith, subst, ◌⊎◌, inl, inr, ⊎_elim, Option, Some, None}
 use Rattle.std.specs.Prelude.{nat_le, slice_get, slice_index}
-use Rattle.std.specs.List.{AllByRecursion}
 use Rattle.std.proofs.lemmas.Bool.{cases_eq, le-leb, lt-leb}
-use Rattle.std.proofs.lemmas.List.{length_push}
+use Rattle.std.proofs.lemmas.List.{length_push, length-map, map-set}
+use Rattle.std.proofs.lemmas.Option.{slice_get-map, slice_get_read}
 use Rattle.loom_views.specs.Limits.{highest_version}
 use Rattle.loom_views.specs.Versions.{IsCounted}
-use Rattle.loom_views.specs.InOrder.{AreRising, IsRising, PairsAt, PairsVectors, PairsCounts, PairAll, PairsViews, IsInOrder, Ranked, rank_at, rank_in}
+use Rattle.loom_views.specs.InOrder.{AreBelow, AreRising, IsRising, PairsAt, PairsVectors, PairsCounts, PairAll, PairsViews, IsInOrder, Ranked, rank_at, rank_of}
 use Rattle.loom_views.specs.declared.rt.views.Views.{Views}
 use Rattle.loom_views.specs.Lanes.{counts_in}
-use Rattle.loom_views.proofs.Atomic.Table.Lists.{get-append_same, get-append_other}
+use Rattle.loom_views.proofs.Atomic.Table.Lists.{get-append_same, get-append_other, get-set_same, get-set_other}
 use Rattle.loom_views.proofs.Sight.Shapes.{is_there}
-
--- each rank so far is below this one
-abbrev pub AreBelow : ℕ → List (Option ℕ) → Type 0
-AreBelow next ranks = (a b : ℕ) → slice_get ranks a ≡ Some (Some b) → b < next
 
 pub none_below : (next : ℕ) → AreBelow next []
 none_below next a b e = absurd (cc e)
@@ -66,18 +62,94 @@ with_rank ranks next h = (
   below_more ranks (Some next) (next + 1) (λ b e. let i : next ≡ b = cc e in omega arith) (λ a b e. let l = h.1 a b e in omega arith),
 )
 
--- the tables of all threads
-pub all_rising : (ranks : List (List (Option ℕ))) → AllByRecursion AreRising ranks → IsRising (Ranked ranks)
-all_rising ranks h t a b c d e f = at ranks h t a b c d e f
-  where
-    found : (o : Option (Option ℕ)) (b : ℕ) → rank_in o ≡ Some b → o ≡ Some (Some b)
-    found None b e = absurd (cc e)
-    found (Some x) b e = ap Some e
+-- ---- the first counts, in a table of fixed size
 
-    at : (ranks : List (List (Option ℕ))) → AllByRecursion AreRising ranks → IsRising (Ranked ranks)
-    at [] h t a b c d e f = absurd (cc e)
-    at (x ∷ xs) h zero a b c d e f = h.0 a b c d (found (slice_get x a) b e) (found (slice_get x c) d f)
-    at (x ∷ xs) h (suc t) a b c d e f = at xs h.1 t a b c d e f
+-- what has a rank stands before this count
+abbrev pub StandBefore : ℕ → List (Option ℕ) → Type 0
+StandBefore count ranks = (a b : ℕ) → slice_get ranks a ≡ Some (Some b) → a < count
+
+no_rank : (n a b : ℕ) → slice_get (map rank_of (replicate n 65535)) a ≡ Some (Some b) → ⊥
+no_rank zero a b e = cc e
+no_rank (suc n) zero b e = cc e
+no_rank (suc n) (suc a) b e = no_rank n a b e
+
+pub none_first : (next count : ℕ) → AreRising (map rank_of (replicate 64 65535)) × AreBelow next (map rank_of (replicate 64 65535)) × StandBefore count (map rank_of (replicate 64 65535))
+none_first next count = (
+  (λ a b c d e f. absurd (no_rank 64 a b e)),
+  (λ a b e. absurd (no_rank 64 a b e)),
+  (λ a b e. absurd (no_rank 64 a b e)),
+)
+
+module _ (ranks : List (Option ℕ)) (count next : ℕ) (within : count < length ranks) where
+  other_at : (a b : ℕ) → (a ≡ count → ⊥) → slice_get (set ranks count (Some next)) a ≡ Some (Some b) → slice_get ranks a ≡ Some (Some b)
+  other_at a b n e = sym (get-set_other ranks count a (Some next) n) ∙ e
+
+  this_at : (a b : ℕ) → a ≡ count → slice_get (set ranks count (Some next)) a ≡ Some (Some b) → next ≡ b
+  this_at a b i e = let f : ◌≡◌ {A = Option (Option ℕ)} (Some (Some next)) (Some (Some b)) = sym (get-set_same ranks count (Some next) within) ∙ subst (λ k. slice_get (set ranks count (Some next)) k ≡ Some (Some b)) i e in cc f
+
+  -- the next rank, of a count behind those that have one
+  rising_set : AreRising ranks → AreBelow next ranks → StandBefore count ranks → AreRising (set ranks count (Some next))
+  rising_set rising below before a b c d e f = by (cases_eq a count) (cases_eq c count)
+    where
+      by : ((a ≡ count) ⊎ (a ≡ count → ⊥)) → ((c ≡ count) ⊎ (c ≡ count → ⊥)) → nat_le a c ≡ nat_le b d
+      by (inl i) (inl j) =
+          let m = this_at a b i e in
+          let n = this_at c d j f in
+          le-leb a c (omega arith) ∙ sym (le-leb b d (omega arith))
+      by (inl i) (inr j) =
+          let old = other_at c d j f in
+          let m = this_at a b i e in
+          let there = before c d old in
+          let less = below c d old in
+          lt-leb a c (omega arith) ∙ sym (lt-leb b d (omega arith))
+      by (inr i) (inl j) =
+          let old = other_at a b i e in
+          let m = this_at c d j f in
+          let there = before a b old in
+          let less = below a b old in
+          le-leb a c (omega arith) ∙ sym (le-leb b d (omega arith))
+      by (inr i) (inr j) = rising a b c d (other_at a b i e) (other_at c d j f)
+
+  below_set : AreBelow next ranks → AreBelow (next + 1) (set ranks count (Some next))
+  below_set below a b e = ⊎_elim (λ i. let m = this_at a b i e in omega arith) (λ i. let l = below a b (other_at a b i e) in omega arith) (cases_eq a count)
+
+  before_set : StandBefore count ranks → StandBefore (count + 1) (set ranks count (Some next))
+  before_set before a b e = ⊎_elim (λ i. omega arith) (λ i. let l = before a b (other_at a b i e) in omega arith) (cases_eq a count)
+
+rank_small : (n : ℕ) → n ≤ highest_version → rank_of n ≡ Some n
+rank_small n l = rw (le-leb n highest_version l) refl
+
+-- a step of the loop that ranks the first counts
+pub first_next : (ranks more : List ℕ) (count next further : ℕ) → count < length ranks → next ≤ highest_version → more ≡ set ranks count next → count + 1 ≤ further
+    → AreRising (map rank_of ranks) → AreBelow next (map rank_of ranks) → StandBefore count (map rank_of ranks)
+    → AreRising (map rank_of more) × AreBelow (next + 1) (map rank_of more) × StandBefore further (map rank_of more)
+first_next ranks more count next further l small e on rising below before =
+    let there : count < length (map rank_of ranks) = omega (arith, length-map {A = ℕ} {B = Option ℕ}) in
+    let is : map rank_of more ≡ set (map rank_of ranks) count (Some next) = ap (map rank_of) e ∙ map-set rank_of ranks count next ∙ ap (λ o. set (map rank_of ranks) count o) (rank_small next small) in
+    rw is (
+      rising_set (map rank_of ranks) count next there rising below before,
+      below_set (map rank_of ranks) count next there below,
+      (λ a b h. let k = before_set (map rank_of ranks) count next there before a b h in omega arith),
+    )
+
+-- of the first counts and those behind them the rank of one
+at_first : (xs ys : List (Option ℕ)) (i : ℕ) (o : Option ℕ) → slice_get xs i ≡ Some o → slice_get (xs ++ ys) i ≡ Some o
+at_first [] ys i o e = absurd (cc e)
+at_first (x ∷ xs) ys zero o e = e
+at_first (x ∷ xs) ys (suc i) o e = at_first xs ys i o e
+
+at_further : (xs ys : List (Option ℕ)) (i k : ℕ) (o : Option ℕ) → i ≡ length xs + k → slice_get ys k ≡ Some o → slice_get (xs ++ ys) i ≡ Some o
+at_further [] ys i k o e h = subst (λ n. slice_get ys n ≡ Some o) (let j : k ≡ i = omega arith in j) h
+at_further (x ∷ xs) ys zero k o e h = absurd (omega arith)
+at_further (x ∷ xs) ys (suc i) k o e h = at_further xs ys i k o (omega arith) h
+
+pub rank_first : (first : List ℕ) (further : List (Option ℕ)) (i rank : ℕ) → i < length first → rank ≡ get_or first i rank → rank ≤ highest_version → slice_get (map rank_of first ++ further) i ≡ Some (Some rank)
+rank_first first further i rank l is small =
+    let here : slice_get (map rank_of first) i ≡ Some (Some rank) = slice_get-map rank_of first i ∙ ap (option_map rank_of) (slice_get_read first (length first) i rank refl l is) ∙ ap Some (rank_small rank small) in
+    at_first (map rank_of first) further i (Some rank) here
+
+pub rank_further : (first : List ℕ) (further : List (Option ℕ)) (i k : ℕ) (o : Option ℕ) → i ≡ length first + k → slice_get further k ≡ Some o → slice_get (map rank_of first ++ further) i ≡ Some o
+rank_further first further i k o e h = at_further (map rank_of first) further i k o (omega (arith, length-map {A = ℕ} {B = Option ℕ})) h
 
 -- ---- first touches
 
@@ -100,10 +172,6 @@ pair_more {X} R Pairs vs ws v w h p = record { count = let a = length_push vs v 
     at : (n : ℕ) → ((n ≡ length vs) ⊎ (n ≡ length vs → ⊥)) → PairsAt R Pairs (slice_get (vs ++ v ∷ []) n) (slice_get (ws ++ w ∷ []) n)
     at n (inl e) = rw (get-append_same vs n v e, get-append_same ws n w (e ∙ h.count)) p
     at n (inr e) = rw (get-append_other vs n v e, get-append_other ws n w (λ f. e (f ∙ sym h.count))) (h.each n)
-
-pub all_more : {X : Type 0} (P : X → Type 0) (xs : List X) (x : X) → AllByRecursion P xs → P x → AllByRecursion P (xs ++ x ∷ [])
-all_more P [] x h p = (p, tt)
-all_more P (y ∷ xs) x h p = (h.0, all_more P xs x h.1 p)
 
 -- a step of the loop that ranks a thread's counts
 pub rank_next : (xs ys : List (Option ℕ)) (n m : ℕ) → ys ≡ xs ++ Some n ∷ [] → m ≡ n + 1 → AreRising xs × AreBelow n xs → AreRising ys × AreBelow m ys

@@ -1,5 +1,5 @@
 -- Views that are others with their counts in the same order: so rules see the same of both.
-use Rattle.std.specs.Prelude.{ℕ, ◌≡◌, ◌<◌, nat_le, List, [], length, slice_get, slice_index, slice_index_or, Option, Some, None}
+use Rattle.std.specs.Prelude.{ℕ, ◌≡◌, ◌<◌, nat_le, List, [], length, slice_get, slice_index, slice_index_or, Option, Some, None, if◌then◌else◌}
 use Rattle.loom_views.specs.declared.rt.atomic.State.{State}
 use Rattle.loom_views.specs.declared.rt.atomic.Store.{Store}
 use Rattle.loom_views.specs.declared.rt.cell.AccessRecords.{AccessRecords}
@@ -8,6 +8,7 @@ use Rattle.loom_views.specs.declared.rt.views.Kept.{Kept}
 use Rattle.loom_views.specs.declared.rt.views.Kept.TheVariants.{Point, Atomic, Cell}
 use Rattle.loom_views.specs.declared.rt.views.Views.{Views}
 use Rattle.loom_views.specs.Atomic.Ring.{store_at}
+use Rattle.loom_views.specs.Limits.{highest_version}
 
 -- Pairs of counts rise where for each thread, of two of them, the one has no larger first count than the other just where it has no
 -- larger second one.
@@ -94,6 +95,14 @@ pub record IsInOrder (v w : Views) : Type 0 where
 -- of one thread's counts, those that have ranks have them in their order
 abbrev pub AreRising : List (Option ℕ) → Type 0
 AreRising ranks = (a b c d : ℕ) → slice_get ranks a ≡ Some (Some b) → slice_get ranks c ≡ Some (Some d) → nat_le a c ≡ nat_le b d
+
+-- each of their ranks is below this one
+abbrev pub AreBelow : ℕ → List (Option ℕ) → Type 0
+AreBelow next ranks = (a b : ℕ) → slice_get ranks a ≡ Some (Some b) → b < next
+
+-- the rank that a number stands for: none, where it is more than any rank
+abbrev pub rank_of : ℕ → Option ℕ
+rank_of n = if nat_le n highest_version then Some n else None
 
 -- the ranks of each thread's counts, of those that have one, by the counts
 abbrev pub rank_in : Option (Option ℕ) → Option ℕ

@@ -1,8 +1,8 @@
 //! The counts of views by their ranks: of each thread's counts that stand somewhere in them, how many others are below. Rules see no
 //! more of counts than their order, so views that are the same by their ranks are the same to them (own).
 
-ghost use Rattle.std.specs.Prelude.{ℕ, ◌<◌, ◌≤◌, IfOk, IfSome, IsTrue};
-ghost use Rattle.loom_views.specs.InOrder.{AreRising, IsRising, PairsCounts, Ranked};
+ghost use Rattle.std.specs.Prelude.{ℕ, ◌≡◌, ◌∷◌, [], ◌++◌, ◌<◌, ◌≤◌, IfOk, IfSome, IsTrue, OnOk, Some, map, slice_get};
+ghost use Rattle.loom_views.specs.InOrder.{AreBelow, AreRising, IsRising, PairsCounts, Ranked, rank_of};
 ghost use Rattle.loom_views.specs.Limits.{highest_version};
 
 use crate::rt::MAX_THREADS;
@@ -18,6 +18,12 @@ const RANKED: usize = 512;
 const WORDS: usize = 8;
 
 const ALL_WORDS: usize = 40;
+
+// so many counts a word; the ranks of those of the first one take no memory
+const BITS: usize = 64;
+
+// what stands for no rank: a number above all ranks
+const NO_RANK: u16 = u16::MAX;
 
 /// Which counts of each thread stand somewhere in some views, of those below 512 (own).
 #[derive(Drop)]
@@ -47,7 +53,7 @@ impl Standing {
         if thread >= MAX_THREADS || place >= RANKED {
             return;
         }
-        self.stands[thread * WORDS + place / 64] |= 1 << (place % 64);
+        self.stands[thread * WORDS + place / BITS] |= 1 << (place % BITS);
         if self.end <= place {
             self.end = place + 1;
         }
@@ -76,7 +82,7 @@ impl Standing {
         if thread >= MAX_THREADS || count >= RANKED {
             return false;
         }
-        (self.stands[thread * WORDS + count / 64] >> (count % 64)) % 2 == 1
+        (self.stands[thread * WORDS + count / BITS] >> (count % BITS)) % 2 == 1
     }
 
     /// The ranks of these counts. An error where memory is refused (own).
@@ -97,46 +103,140 @@ impl Standing {
     }
 
     /// The ranks of a thread's counts: each that stands has one. An error where memory is refused.
-    #[tactic(auto, using(crate::proofs::Ranks::none_rising, crate::proofs::Ranks::none_below))]
-    fn ranks_of(&self, alloc: Global, thread: usize) -> Result<Sequence<Option<u16>>, AllocError>
+    fn ranks_of(&self, alloc: Global, thread: usize) -> Result<ThreadRanks, AllocError>
+        requires { thread < 5 }
         ensures { IfOk result (λ ranks. AreRising ranks) }
     {
-        let end = self.end.min(RANKED);
-        let mut ranks = Vec::with_capacity(alloc, end)?;
-        let mut next: u16 = 0;
-        for count in 0..end {
-            if self.stands(thread, count) && next < MAX_VERSION {
-                ranks.push(Some(next))?;
-                next += 1;
+        let (first, next) = first_ranks(self.stands[thread * WORDS]);
+        let mut ranks = ThreadRanks::new(alloc, first);
+        self.rank_further(thread, next, &mut ranks)?;
+        Ok(ranks)
+    }
+
+    /// Ranks from this one on for the thread's counts behind the first ones. An error where memory is refused.
+    fn rank_further(
+        &self,
+        thread: usize,
+        next: u16,
+        ranks: &mut ThreadRanks,
+    ) -> Result<(), AllocError>
+        requires rising { AreRising ranks.old }
+        requires below { AreBelow next ranks.old }
+        ensures { OnOk result (AreRising ranks.new) }
+    {
+        let mut rank = next;
+        for count in BITS..self.end {
+            if self.stands(thread, count) && rank < MAX_VERSION {
+                ranks.push(Some(rank))?;
+                rank += 1;
             } else {
                 ranks.push(None)?;
             }
         }
-        Ok(Sequence::from_vec(ranks))
+        Ok(())
     }
 }
 
-/// The rank of a thread's count in such a table, if it has one.
-fn rank_in(threads: &[Sequence<Option<u16>>; MAX_THREADS], thread: usize, count: u16) -> Option<u16>
+/// The ranks of those of the first counts that stand, which these bits say, and how many they are.
+fn first_ranks(stands: u64) -> ([u16; BITS], u16)
+    ensures rising { AreRising (map rank_of result.0) }
+    ensures below { AreBelow result.1 (map rank_of result.0) }
+{
+    let mut ranks = [NO_RANK; BITS];
+    let mut next = 0u16;
+    let mut count = next_standing(stands, 0);
+    while count < BITS {
+        ranks[count] = next;
+        next += 1;
+        count = next_standing(stands, count + 1);
+    }
+    (ranks, next)
+}
+
+/// From this count on the first of those that these bits say, or one that they don't speak of.
+fn next_standing(stands: u64, count: usize) -> usize
+    ensures { count ≤ result }
+{
+    if count >= BITS {
+        return count;
+    }
+    count + (stands >> count).trailing_zeros() as usize
+}
+
+/// The ranks of a thread's counts. A contract sees the list of them.
+#[derive(Drop)]
+struct ThreadRanks {
+    // those of the first counts
+    first: [u16; BITS],
+    // those of the counts behind them
+    further: Sequence<Option<u16>>,
+}
+
+impl Model for ThreadRanks {
+    ghost use Rattle.std.specs.Prelude.{ℕ, ◌≡◌, ◌++◌, List, Option, length, map};
+    ghost use Rattle.loom_views.specs.InOrder.{rank_of};
+
+    ghost Value = { List (Option ℕ) };
+
+    ghost view = { λ r. map rank_of r.first ++ r.further };
+
+    ghost invariant = { λ r. length r.first ≡ 64 };
+}
+
+impl ThreadRanks {
+    /// Those of the first counts alone.
+    fn new(alloc: Global, first: [u16; BITS]) -> ThreadRanks
+        ensures { result ≡ map rank_of first }
+    {
+        ThreadRanks {
+            first,
+            further: Sequence::new(alloc),
+        }
+    }
+
+    /// That of one count more. An error where memory is refused.
+    fn push(&mut self, rank: Option<u16>) -> Result<(), AllocError>
+        ensures { OnOk result (self.new ≡ self.old ++ rank ∷ []) }
+    {
+        self.further.push(rank)
+    }
+
+    /// That of a count, if it has one.
+    fn at(&self, count: usize) -> Option<u16>
+        ensures ranked { IfSome result (λ rank. slice_get self.now count ≡ Some (Some rank)) }
+        ensures most { IfSome result (λ rank. rank ≤ highest_version) }
+    {
+        if count < BITS {
+            let rank = self.first[count];
+            if rank > MAX_VERSION {
+                return None;
+            }
+            return Some(rank);
+        }
+        let place = count - BITS;
+        if place >= self.further.len() {
+            return None;
+        }
+        match *self.further.at(place) {
+            Some(rank) if rank <= MAX_VERSION => Some(rank),
+            _ => None,
+        }
+    }
+}
+
+/// The rank of a thread's count there, if it has one.
+fn rank_in(threads: &[ThreadRanks; MAX_THREADS], thread: usize, count: u16) -> Option<u16>
     ensures ranked { IfSome result (λ rank. Ranked threads.now thread count rank) }
     ensures most { IfSome result (λ rank. rank ≤ highest_version) }
 {
     if thread >= MAX_THREADS {
         return None;
     }
-    let ranks = &threads[thread];
-    let place = usize::from(count);
-    if place >= ranks.len() {
-        return None;
-    }
-    match *ranks.at(place) {
-        Some(rank) if rank <= MAX_VERSION => Some(rank),
-        _ => None,
-    }
+    threads[thread].at(usize::from(count))
 }
 
 /// Whether the count 0 of each thread has the rank 0 there.
-fn have_zeros(threads: &[Sequence<Option<u16>>; MAX_THREADS]) -> bool
+fn have_zeros(threads: &[ThreadRanks; MAX_THREADS]) -> bool
     ensures { IsTrue result → (t : ℕ) → t < 5 → Ranked threads.now t 0 0 }
 {
     for thread in 0..MAX_THREADS {
@@ -150,7 +250,7 @@ fn have_zeros(threads: &[Sequence<Option<u16>>; MAX_THREADS]) -> bool
 /// For each thread, the ranks of its counts. The count 0 has the rank 0 (own).
 #[derive(Drop)]
 pub struct Ranks {
-    threads: [Sequence<Option<u16>>; MAX_THREADS],
+    threads: [ThreadRanks; MAX_THREADS],
 }
 
 impl Model for Ranks {
