@@ -8,6 +8,7 @@ pub mod Errors
 pub mod Handing
 pub mod Noting
 pub mod Numbers
+pub mod PartTexts
 pub mod Parts
 pub mod Paths
 pub mod Reading

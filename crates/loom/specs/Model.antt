@@ -11,6 +11,7 @@ pub mod Errors
 pub mod Fresh
 pub mod Listening
 pub mod Loop
+pub mod PartText
 pub mod Parts
 pub mod Refusals
 pub mod Replayed
