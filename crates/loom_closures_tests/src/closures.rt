@@ -1,5 +1,4 @@
 //! Checks of closures: those of the examples and of the guide, and what is told of a check, in a log or behind it.
-ghost use Rattle.std.specs.Prelude.{◌≡◌};
 
 mod bodies;
 mod explained;

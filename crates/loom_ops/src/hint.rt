@@ -1,5 +1,5 @@
 //! Hints to the processor, of which a run makes operations.
-ghost use Rattle.std.specs.Prelude.{◌≡◌, None};
+ghost use Rattle.std.specs.Prelude.{◌≡◌};
 ghost use Rattle.loom_ops.specs.Thread.{yielding};
 ghost use Rattle.loom_objects.specs.Operation.Labelled.{bare};
 

@@ -4,7 +4,7 @@
 //! `loom_examples` and `loom_tests` are written with them.
 #![tactic(auto)]
 
-ghost use Rattle.std.specs.Prelude.{◌≡◌, None};
+ghost use Rattle.std.specs.Prelude.{◌≡◌};
 ghost use Rattle.loom_ops.specs.Failing.{unexpected};
 ghost use Rattle.loom_objects.specs.Operation.Labelled.{bare};
 

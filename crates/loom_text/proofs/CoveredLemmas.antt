@@ -1,17 +1,16 @@
 -- What a complete check that remembers states says of each run.
-use Rattle.std.proofs.Common.{◌≡◌, ℕ, ◌+◌, ◌<◌, ◌&&◌, Bool, true, false, List, [], ◌∷◌, map, take, Some, Result, Ok, Err, refl, sym, ap, ◌∙◌, subst, ◌⊎◌, ⊎_elim, inl, inr, arith}
+use Rattle.std.proofs.Common.{◌≡◌, ℕ, ◌+◌, ◌<◌, ◌&&◌, true, false, List, [], ◌∷◌, map, take, Some, Ok, Err, refl, sym, ap, ◌∙◌, subst, ◌⊎◌, ⊎_elim, inl, inr, arith}
 use Rattle.loom_objects.specs.declared.choice.Choice.{Choice}
 use Rattle.loom_views.specs.declared.rt.failure.FailureKind.{FailureKind}
 use Rattle.loom_engine.specs.Covering.Covered.{IsGiven}
 use Rattle.loom_engine.specs.Covering.States.{AreLimits}
-use Rattle.loom_engine.specs.Covering.World.{IsCalled, IsLimit}
+use Rattle.loom_engine.specs.Covering.World.{IsCalled}
 use Rattle.loom.specs.Model.Covered.{IsCovered}
 use Rattle.loom.specs.declared.model.builder.Builder.{Builder}
 use Rattle.loom_text.specs.declared.run.layout.Layout.{Layout}
 use Rattle.loom_text.specs.declared.test.Test.{Test}
 use Rattle.loom_text.specs.Run.Check.{tally_of}
 use Rattle.loom_text.specs.Run.Counted.{Counted}
-use Rattle.loom_text.specs.Run.Covered.{AreCounted}
 use Rattle.loom_text.specs.Run.Laws.{CoveredLaw, NoneMeets, is_length, runs_of, showing, world_by}
 use Rattle.loom_text.specs.Run.Operators.{truth}
 use Rattle.loom_text.specs.Run.Running.{Running}

@@ -1,5 +1,5 @@
 -- Registers, and instructions that are no operations.
-use Rattle.std.proofs.Common.{◌≡◌, ℕ, zero, suc, ◌+◌, ◌-◌, ◌<◌, ◌≤◌, List, [], ◌∷◌, length, refl, ap, ◌∙◌, arith}
+use Rattle.std.proofs.Common.{◌≡◌, ℕ, zero, suc, ◌+◌, ◌≤◌, List, [], ◌∷◌, length, refl, ap, ◌∙◌, arith}
 use Rattle.std.proofs.lemmas.List.{set_past}
 use Rattle.loom_text.specs.declared.run.code.Instruction.{Instruction}
 use Rattle.loom_text.specs.Run.Progress.{Progress}

@@ -1,5 +1,5 @@
 -- From what a walk promises of a visitor to what it promises of a test.
-use Rattle.std.proofs.Common.{◌≡◌, ℕ, List, [], ◌∷◌, refl, ap, ◌∙◌}
+use Rattle.std.proofs.Common.{◌≡◌, ℕ, List, [], ◌∷◌, ap, ◌∙◌}
 use Rattle.std.specs.declared.time.Duration.{Duration}
 use Rattle.loom_objects.specs.declared.choice.Choice.{Choice}
 use Rattle.loom_objects.specs.Tree.Tree.{Tree}

@@ -1,30 +1,28 @@
 -- Runs one after another that are alike.
-use Rattle.std.proofs.Common.{◌≡◌, ◌+◌, ◌∙◌, ℕ, List, [], ◌∷◌, length, inl, inr, refl, sym, ap, subst, arith, Option, Some, None, IfOk, Result, Ok, Err}
-use Rattle.std.specs.Prelude.{◌≢◌, String, Vec, slice_get}
+use Rattle.std.proofs.Common.{◌≡◌, ◌+◌, ◌∙◌, ℕ, List, [], ◌∷◌, length, inl, inr, refl, sym, subst, arith, Option, Some, None, IfOk, Result, Ok, Err}
+use Rattle.std.specs.Prelude.{◌≢◌, Vec, slice_get}
 use Rattle.std.specs.declared.alloc.Global.{Global}
 use Rattle.loom_views.specs.declared.rt.failure.FailureKind.TheVariants.{NotDeterministic}
 use Rattle.loom_objects.specs.declared.choice.Choice.{Choice}
 use Rattle.loom_objects.specs.declared.failure.Failure.{Failure}
 use Rattle.loom_engine.specs.declared.rt.execution.Limits.{Limits}
 use Rattle.loom_engine.specs.Path.Route.{Route, chosen}
-use Rattle.loom.specs.declared.model.Limit.{Limit}
 use Rattle.loom.specs.declared.model.error.CheckError.{CheckError}
 use Rattle.loom.specs.declared.model.error.CheckError.TheVariants.{MaxThreads, MaxBranches, PreemptionBound, CheckpointInterval, MaxSteps, NotANumber, NotJson, WrongShape, WrongVersion, OtherSettings, TooManyNodes, BadNode, Store, Memory}
 use Rattle.loom.specs.declared.model.report.Report.TheVariants as report
 use Rattle.loom.specs.declared.runner.error.Changed.{Changed}
 use Rattle.loom.specs.declared.runner.error.RunnerError.{RunnerError}
 use Rattle.loom.specs.declared.runner.error.RunnerError.TheVariants as error
-use Rattle.loom.specs.declared.runner.history.event.Event.{Event}
 use Rattle.loom.specs.declared.runner.run_end.RunEnd.{RunEnd}
 use Rattle.loom.specs.declared.runner.run_end.RunEnd.TheVariants.{Failed, Ended}
 use Rattle.loom.specs.declared.runner.stop.Stop.{Stop}
-use Rattle.loom.specs.Runner.Alike.{Agree, Alike, AreAlike, Changes, Differ, FailsAlike, Follows, HasChanged, IsChangedSo, ReportsAlike, Says, Trace, last_of, trace, trace_of}
+use Rattle.loom.specs.Runner.Alike.{Agree, Alike, AreAlike, Changes, Differ, Follows, IsChangedSo, ReportsAlike, Says, Trace, last_of, trace, trace_of}
 use Rattle.loom.specs.Runner.Comparing.{IsChangeAt, IsParted, IsRefusedOrSays, Passes}
 use Rattle.loom.specs.Runner.Errors.{of_check}
-use Rattle.loom.specs.Runner.Events.{ended_by, failed_by, last_event}
+use Rattle.loom.specs.Runner.Events.{failed_by, last_event}
 use Rattle.loom.specs.Runner.Handle.{Teller, newcomer}
 use Rattle.loom.specs.Runner.Histories.{Log, Share}
-use Rattle.loom.specs.Runner.Made.{Made, MadeBy}
+use Rattle.loom.specs.Runner.Made.{Made}
 use Rattle.loom.specs.Runner.Next.{IsNoNextRun, IsNotJudgedNext, MakesNext}
 use Rattle.loom.specs.Runner.Refusals.{IsNoEnd, IsNoRun, IsNotJudged}
 use Rattle.loom.specs.Runner.Run.{Checked, Judged, WasCalled}

@@ -1,5 +1,5 @@
 -- What is told of a run of closures, and why nothing is.
-use Rattle.std.proofs.Common.{◌≡◌, ◌∙◌, ◌∷◌, ◌++◌, ap, ap₂, append-nil, append_assoc, length, refl, subst, sym, inl, inr, List, [], Some, None, Result, Ok, Err, IfErr, IfOk}
+use Rattle.std.proofs.Common.{◌≡◌, ◌∙◌, ◌∷◌, ◌++◌, ap, ap₂, append-nil, append_assoc, length, refl, subst, sym, inl, inr, List, [], Some, Result, Ok, Err, IfOk}
 use Rattle.std.specs.Prelude.{⊤}
 use Rattle.loom_engine.specs.declared.rt.execution.Limits.{Limits}
 use Rattle.loom_engine.specs.Path.Route.{Route}
@@ -12,19 +12,17 @@ use Rattle.loom.specs.Explain.Explains.{HasLimits, IsChosenOn}
 use Rattle.loom.specs.Explain.Places.{placed}
 use Rattle.loom.specs.declared.model.builder.Builder.{Builder}
 use Rattle.loom.specs.declared.runner.error.RunnerError.{RunnerError}
-use Rattle.loom.specs.declared.runner.error.RunnerError.TheVariants as error
 use Rattle.loom.specs.declared.runner.history.event.Event.{Event}
 use Rattle.loom.specs.declared.runner.stop.Stop.{Stop}
 use Rattle.loom.specs.declared.runner.stop.Stop.TheVariants as stop
 use Rattle.loom.specs.Runner.Check.{limits_of}
-use Rattle.loom.specs.Runner.Errors.{IsRefusedByHost, error_by}
+use Rattle.loom.specs.Runner.Errors.{error_by}
 use Rattle.loom.specs.Runner.Explained.{Explains, ExplainsAlong, IsEndOf, IsSettledAndTold, IsToldOf, told_by, told_event, told_events, told_from}
-use Rattle.loom.specs.Runner.Handle.{Teller, newcomer}
+use Rattle.loom.specs.Runner.Handle.{Teller}
 use Rattle.loom.specs.Runner.Histories.{Log, Share}
 use Rattle.loom.specs.Runner.Refusals.{IsNoReplayAlong, IsNotTold, IsOpenOrRefused}
 use Rattle.loom.specs.Runner.Replay.{following}
 use Rattle.loom.specs.Runner.Run.{WasCalled}
-use Rattle.loom.proofs.RunnerLemmas.Made.{made_of}
 
 -- a run that was spoiled
 pub spoiled_untold : {D : Type 0} (limits : Limits) (began : Route) (log : Log D) (told : List (Share D)) (s : Stop) (e : RunnerError) → e ≡ error_by s → log.spoiled ≡ Some s → IsNotTold limits began log told e

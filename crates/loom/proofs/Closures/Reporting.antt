@@ -1,5 +1,5 @@
 -- A check under way: the runs that its visitor was given, what its store may hold, and what is known of them once it reports.
-use Rattle.std.proofs.Common.{◌≡◌, ◌+◌, ◌<◌, ◌≤◌, ◌∙◌, ◌⊎◌, ℕ, false, List, [], ◌∷◌, ◌++◌, length, refl, sym, ap, subst, inl, inr, Option, Some, None, Result, arith}
+use Rattle.std.proofs.Common.{◌≡◌, ◌+◌, ◌<◌, ◌≤◌, ◌∙◌, ◌⊎◌, ℕ, false, List, [], ◌∷◌, length, refl, sym, ap, subst, inl, inr, Option, Some, None, Result, arith}
 use Rattle.std.specs.Prelude.{string_bytes, String, Vec, IsSomeAnd}
 use Rattle.std.specs.declared.alloc.Global.{Global}
 use Rattle.std.specs.declared.time.Duration.{Duration}
@@ -12,7 +12,7 @@ use Rattle.loom_engine.specs.Walk.Path.{Skip, Visited, Stored, node_at}
 use Rattle.loom_engine.specs.Checkpoint.Grammar.{path_data}
 use Rattle.loom_engine.specs.declared.rt.execution.Limits.{Limits}
 use Rattle.loom_engine.specs.declared.rt.path.node.Node.{Node}
-use Rattle.loom_engine.specs.Path.Route.{Route, IsAtStart, at_rest, chosen, stored}
+use Rattle.loom_engine.specs.Path.Route.{Route, IsAtStart, chosen, stored}
 use Rattle.loom_engine.specs.Trees.Meeting.{Settings}
 use Rattle.loom.specs.declared.model.builder.Builder.{Builder}
 use Rattle.loom.specs.declared.model.Limit.{Limit}

@@ -1,5 +1,5 @@
 -- A search for a shorter failure of a closure: the runs that it makes, and the shortest one so far.
-use Rattle.std.proofs.Common.{◌≡◌, ◌≢◌, ◌≤◌, ◌<◌, ◌+◌, ◌-◌, ◌∙◌, ◌⊎◌, ℕ, zero, suc, inl, inr, Bool, true, false, List, [], refl, sym, ap, subst, arith, Option, Some, None, Result, Ok, Err, IfOk}
+use Rattle.std.proofs.Common.{◌≡◌, ◌≤◌, ◌+◌, ◌-◌, ◌∙◌, ◌⊎◌, ℕ, zero, suc, inl, inr, Bool, true, false, List, [], refl, sym, ap, subst, arith, Option, Some, None, Result, Ok, Err, IfOk}
 use Rattle.std.specs.Prelude.{Vec, option_map, slice_get}
 use Rattle.loom_objects.specs.declared.choice.Choice.{Choice}
 use Rattle.loom_objects.specs.declared.failure.Failure.{Failure}
@@ -9,9 +9,7 @@ use Rattle.loom_engine.specs.Path.Route.{Route, chosen}
 use Rattle.loom_views.specs.declared.rt.failure.FailureKind.{FailureKind}
 use Rattle.loom.specs.declared.model.builder.Builder.{Builder}
 use Rattle.loom.specs.declared.model.shorten.Shortened.{Shortened}
-use Rattle.loom.specs.declared.runner.error.Changed.{Changed}
 use Rattle.loom.specs.declared.runner.error.RunnerError.{RunnerError}
-use Rattle.loom.specs.declared.runner.error.RunnerError.TheVariants as error
 use Rattle.loom.specs.declared.runner.shortening.Failing.{Failing}
 use Rattle.loom.specs.declared.runner.stop.Stop.{Stop}
 use Rattle.loom.specs.declared.runner.stop.Stop.TheVariants as stop
@@ -21,10 +19,10 @@ use Rattle.loom.specs.Runner.Comparing.{IsRefusedOrSays}
 use Rattle.loom.specs.Runner.Drawn.{LeadsBy}
 use Rattle.loom.specs.Runner.Errors.{error_by}
 use Rattle.loom.specs.Runner.Handle.{Teller}
-use Rattle.loom.specs.Runner.Histories.{Log, Share, end_in, failed_by, last_event}
+use Rattle.loom.specs.Runner.Histories.{Log, Share, end_in}
 use Rattle.loom.specs.Runner.Made.{Made}
-use Rattle.loom.specs.Runner.Refusals.{IsNoReplayAlong, IsOpenOrRefused}
-use Rattle.loom.specs.Runner.Replay.{IsMadeAlong, following}
+use Rattle.loom.specs.Runner.Refusals.{IsOpenOrRefused}
+use Rattle.loom.specs.Runner.Replay.{following}
 use Rattle.loom.specs.Runner.Run.{WasCalled}
 use Rattle.loom.specs.Runner.Shortening.{BreaksOff, FailsBy, Follows, IsFound, IsNotShortenedBy, IsOneOf, Runs, Shortens, more, none}
 use Rattle.loom.specs.Runner.Trying.{EndsAs, HasMade, IsBetter, IsChecked, IsNoTry, IsNotTried, IsTried, IsUnderWay, IsUnsettledBy, LeavesUnsettled, SettlesBy, Tries, log_by, start_by}

@@ -1,19 +1,17 @@
 -- Checks one after another are as one check.
-use Rattle.std.proofs.Common.{◌≡◌, ◌∙◌, ◌⊎◌, ℕ, Bool, false, List, [], ◌∷◌, ◌++◌, refl, sym, ap, ap₂, subst, Option, Some, None, Result, append-nil}
+use Rattle.std.proofs.Common.{◌≡◌, ◌∙◌, ◌⊎◌, Bool, false, List, [], ◌∷◌, ◌++◌, refl, sym, ap, ap₂, subst, Option, Some, None, Result, append-nil}
 use Rattle.std.specs.Prelude.{IsSomeAnd}
 use Rattle.loom_objects.specs.declared.choice.Choice.{Choice}
-use Rattle.loom_engine.specs.Walk.Lists.{IsOnce}
 use Rattle.loom_engine.specs.Walk.Path.{Skip, Visited, Stored, node_at, step}
 use Rattle.loom_engine.specs.declared.rt.execution.Limits.{Limits}
 use Rattle.loom_engine.specs.declared.rt.path.node.Node.{Node}
 use Rattle.loom_engine.specs.Path.Route.{Route, at_rest, stored}
 use Rattle.loom_engine.specs.Trees.Meeting.{Settings}
 use Rattle.loom.specs.declared.runner.stop.Stop.{Stop}
-use Rattle.loom.specs.Model.StoredText.{IsTextOf, ReadsAs}
 use Rattle.loom.specs.Runner.Chains.{Follow, GoesTo}
 use Rattle.loom.specs.Runner.Handle.{Teller}
 use Rattle.loom.specs.Runner.Laws.{AllTriedFrom, IsTried}
-use Rattle.loom.specs.Runner.Check.{Made, Rounds, AreTogether, begins, goes_on, TogetherLaw, run_of, runs_of, lists_of}
+use Rattle.loom.specs.Runner.Check.{Made, AreTogether, begins, goes_on, TogetherLaw, runs_of}
 use Rattle.loom.proofs.ModelLemmas.Paths.{MayBegin, same_stored, begins as read_well}
 use Rattle.loom.proofs.RunnerLemmas.Alternatives.{all_tried}
 use Rattle.loom.proofs.RunnerLemmas.Following.{IsFine}

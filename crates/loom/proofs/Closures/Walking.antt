@@ -1,6 +1,6 @@
 -- A walk of a closure under way, and the runs that it makes.
-use Rattle.std.proofs.Common.{◌≡◌, ◌≤◌, ◌<◌, ◌+◌, ◌-◌, ◌∙◌, ℕ, suc, inl, inr, Bool, true, false, List, [], ◌∷◌, length, refl, sym, ap, subst, arith, Option, None, Some, Result, Ok, Err, IfOk}
-use Rattle.std.specs.Prelude.{⊤, IfSome, Vec}
+use Rattle.std.proofs.Common.{◌≡◌, ◌≤◌, ◌<◌, ◌+◌, ◌-◌, ◌∙◌, ℕ, suc, inl, inr, Bool, true, List, [], ◌∷◌, length, refl, sym, ap, subst, arith, Option, None, Some, Result, Ok, Err, IfOk}
+use Rattle.std.specs.Prelude.{IfSome, Vec}
 use Rattle.std.specs.declared.alloc.Global.{Global}
 use Rattle.std.specs.declared.time.Duration.{Duration}
 use Rattle.loom_objects.specs.declared.choice.Choice.{Choice}
@@ -13,7 +13,7 @@ use Rattle.loom.specs.declared.model.walk.Walk.{Walk}
 use Rattle.loom.specs.declared.model.walk.Walked.TheVariants as walked
 use Rattle.loom.specs.Model.Check.{HasLasted}
 use Rattle.loom.specs.Model.Different.{Counted, IsCount, Notes, TellsDifferent}
-use Rattle.loom.specs.Model.Walking.{asked_runs, is_cut}
+use Rattle.loom.specs.Model.Walking.{asked_runs}
 use Rattle.loom.specs.declared.runner.drawn.DrawnEnd.{DrawnEnd}
 use Rattle.loom.specs.declared.runner.drawn.DrawnEnd.TheVariants.{Ended, Cut, Failed}
 use Rattle.loom.specs.declared.runner.error.RunnerError.{RunnerError}

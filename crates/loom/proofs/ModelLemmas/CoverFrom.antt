@@ -1,5 +1,5 @@
 -- Rounds of a covering check that goes on from a path, with those of the checks before it.
-use Rattle.std.proofs.Common.{◌≡◌, ◌≤◌, ◌⊎◌, ℕ, zero, suc, arith, Bool, List, [], ◌∷◌, ◌++◌, length, Option, Some, None, Result, Ok, Err, refl, ap, sym, ◌∙◌, subst, inl, inr, append-nil, append_assoc}
+use Rattle.std.proofs.Common.{◌≡◌, ◌≤◌, ◌⊎◌, ℕ, zero, suc, arith, List, [], ◌∷◌, ◌++◌, length, Option, Some, None, Result, Ok, ap, sym, ◌∙◌, inl, inr, append-nil}
 use Rattle.std.specs.List.{Contains}
 use Rattle.loom_objects.specs.declared.choice.Choice.{Choice}
 use Rattle.loom_objects.specs.Tree.Tree.{Tree}
@@ -7,20 +7,18 @@ use Rattle.loom_views.specs.declared.rt.failure.FailureKind.{FailureKind}
 use Rattle.loom_engine.specs.Trees.Drive.{Trail}
 use Rattle.loom_engine.specs.Trees.Machines.{IsMarking}
 use Rattle.loom_engine.specs.Trees.Marks.{marking}
-use Rattle.loom_engine.specs.Trees.Meeting.{Marking, machine_of, whole_search}
+use Rattle.loom_engine.specs.Trees.Meeting.{whole_search}
 use Rattle.loom_engine.specs.Trees.Resuming.{HasDefaults}
 use Rattle.loom_engine.specs.Trees.Sound.{EndsUnchosen, IsSoundTree}
 use Rattle.loom_engine.specs.Walk.Path.{IsAtRest, Stored, choices, node_at, step}
 use Rattle.loom_engine.specs.Walk.Driven.{IsLeftBy, IsOneOf}
 use Rattle.loom_engine.specs.Walk.Lists.{Begins}
 use Rattle.loom_engine.specs.Path.WellFormed.{AreAtRest}
-use Rattle.loom_engine.specs.Covering.Cut.{with_run}
 use Rattle.loom_engine.specs.Covering.Lost.{AreLost}
 use Rattle.loom_engine.specs.Covering.Table.{HasState, IsAlong, Notes, notes_more, notes_none}
 use Rattle.loom_engine.specs.Covering.UnderWay.{HasNode}
 use Rattle.loom_engine.proofs.Covering.Closing.{IsOff, below_off, node_kept, node_stepped, off_apart, off_kept, off_stepped}
 use Rattle.loom_engine.proofs.Covering.Cut.{later_rests, round}
-use Rattle.loom_engine.proofs.Covering.Joined.{in_front}
 use Rattle.loom_engine.proofs.Covering.Rounds.{left_there, notes_rest}
 use Rattle.loom_engine.proofs.Covering.UnderWay.{node_within}
 use Rattle.loom_engine.proofs.Trees.Reporting.{search_law}

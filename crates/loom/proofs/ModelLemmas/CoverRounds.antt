@@ -49,7 +49,7 @@ use Rattle.loom.specs.declared.model.cover.Covered.TheVariants.{Complete, Livelo
 use Rattle.loom.specs.declared.model.cover.run.Ending.{Ending}
 use Rattle.loom.specs.declared.model.cover.run.Ending.TheVariants as end
 use Rattle.loom.specs.Model.Cover.{AreNoted, EndsWith, Leaves, Meets, Noting, noting}
-use Rattle.loom.specs.Model.Covered.{AllCanEnd, Claims, ClaimsTogether, Covering, CoveringAlone, FailsAlong, GoesOnLaw, HaveComeTo, IsCovered, IsHeld, IsPlaced, IsToldBy, NeverEnds, StopsAt, StopsBy, runs_in}
+use Rattle.loom.specs.Model.Covered.{AllCanEnd, Claims, ClaimsTogether, Covering, CoveringAlone, FailsAlong, GoesOnLaw, HaveComeTo, IsCovered, IsHeld, IsPlaced, IsToldBy, NeverEnds, StopsBy, runs_in}
 use Rattle.loom.specs.Model.CoverStores.{HeldBack, IsCoverBegun, IsCoverKept, IsCoverSaved, IsNoBeginning, IsNoReport}
 use Rattle.loom.specs.Model.Refusals.{of_path}
 use Rattle.loom.specs.declared.model.error.CheckError.{CheckError}

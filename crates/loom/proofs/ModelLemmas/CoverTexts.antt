@@ -1,18 +1,16 @@
 -- The text of a covering check's path, and that a plain path's is none.
-use Rattle.std.proofs.Common.{◌≡◌, ◌≤◌, ℕ, Bool, true, false, cond, codes, List, [], ◌∷◌, Option, Some, String, Global, string_bytes, refl, ap, sym, ◌∙◌, subst, inl, inr}
+use Rattle.std.proofs.Common.{◌≡◌, ◌≤◌, ℕ, Bool, true, false, cond, codes, List, [], ◌∷◌, Some, String, Global, string_bytes, refl, ap, sym, ◌∙◌, subst, inl, inr}
 use Rattle.std.specs.Cmp.Lexicographic.{slice_cmp}
 use Rattle.std.specs.BTreeMap.{is_at}
 use Rattle.std.specs.Map.{remove_entry}
 use Rattle.std.specs.Ordering.{nat_cmp, is_eq}
-use Rattle.serde_json.specs.Data.{Data, Members, depth, member, string}
-use Rattle.serde_json.specs.Find.{get}
+use Rattle.serde_json.specs.Data.{Data, depth, member}
 use Rattle.serde_json.specs.View.{view, members_view}
 use Rattle.serde_json.specs.Written.{has_float}
 use Rattle.serde_json.specs.declared.value.Value.{Value}
-use Rattle.loom_engine.specs.Checkpoint.Accepted.{IsPathOf, OfText}
+use Rattle.loom_engine.specs.Checkpoint.Accepted.{IsPathOf}
 use Rattle.loom_engine.specs.Checkpoint.Grammar.{path_data, shape_data}
 use Rattle.loom_engine.specs.Path.Route.{stored}
-use Rattle.loom_engine.specs.Path.WellFormed.{AreAlike}
 use Rattle.loom_engine.specs.Trees.Meeting.{Settings}
 use Rattle.loom_engine.specs.declared.rt.path.node.Node.{Node}
 use Rattle.loom_engine.proofs.Checkpoint.ShapeLaws.{same_nodes}

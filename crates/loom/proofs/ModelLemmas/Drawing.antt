@@ -15,7 +15,6 @@ use Rattle.loom_engine.specs.Path.Route.{IsSameSearch, Route, chosen, trail}
 use Rattle.loom_engine.specs.Runs.Body.{Meaning, runs, with_child}
 use Rattle.loom_engine.specs.Runs.Machine.{submit}
 use Rattle.loom_engine.specs.Trees.Meeting.{Settings}
-use Rattle.loom_engine.specs.Walk.Lists.{Begins}
 use Rattle.loom_engine.proofs.Path.Drawing.{begins_all}
 use Rattle.loom_explain.specs.declared.event.Event.{Event}
 use Rattle.loom.specs.declared.model.run.Ending.{Ending}
@@ -24,7 +23,7 @@ use Rattle.loom.specs.Model.Listening.{HasHeard}
 use Rattle.loom.specs.Model.Run.{IsEndBy, IsEndOf}
 use Rattle.loom.specs.Model.Turns.{ComesToTurn, IsHeardAs, IsUnderWay}
 use Rattle.loom.specs.Model.Walking.{EndsSo, RunsDrawn}
-use Rattle.loom.proofs.ExplainLemmas.Turning.{ended_so, heard_along, hears_one, no_body, stopped_so}
+use Rattle.loom.proofs.ExplainLemmas.Turning.{ended_so, heard_along, hears_one, stopped_so}
 use Rattle.loom.proofs.ModelLemmas.Handing.{IsHanded}
 
 -- nobody hears the run

@@ -1,5 +1,5 @@
 -- A part under way: runs from its path, with those that its visitor was given.
-use Rattle.std.proofs.Common.{◌≡◌, ◌⊎◌, ◌+◌, ℕ, zero, suc, inl, inr, List, [], ◌∷◌, ◌++◌, length, take, refl, ap, ap₂, sym, ◌∙◌, subst, arith}
+use Rattle.std.proofs.Common.{◌≡◌, ◌+◌, ℕ, zero, suc, inl, inr, List, [], ◌∷◌, length, take, refl, ap, ap₂, sym, ◌∙◌, subst, arith}
 use Rattle.std.specs.Prelude.{Bool, true, false, Option, Some, None, Ok, Err, Result, Vec}
 use Rattle.std.specs.declared.alloc.Global.{Global}
 use Rattle.loom_views.specs.declared.rt.failure.FailureKind.{FailureKind}
@@ -9,10 +9,10 @@ use Rattle.loom_objects.specs.Tree.Tree.{Tree}
 use Rattle.loom_engine.specs.Walk.Machine.{Machine}
 use Rattle.loom_engine.specs.Walk.Path.{Stored, choices, IsResting, after_run}
 use Rattle.loom_engine.specs.Walk.Walks.{run_of}
-use Rattle.loom_engine.specs.Trees.Drive.{Trail, drive, at_start}
+use Rattle.loom_engine.specs.Trees.Drive.{drive, at_start}
 use Rattle.loom_engine.specs.Trees.Marks.{marking}
 use Rattle.loom_engine.specs.Trees.Meeting.{Settings}
-use Rattle.loom_engine.specs.Trees.Outcomes.{outcome, AreRuns, choices_made}
+use Rattle.loom_engine.specs.Trees.Outcomes.{outcome, choices_made}
 use Rattle.loom_engine.specs.Trees.Machines.{IsMarking}
 use Rattle.loom_engine.specs.Runs.Sound.{IsRunTree}
 use Rattle.loom_engine.specs.declared.rt.path.node.Node.{Node}
@@ -28,7 +28,7 @@ use Rattle.loom.specs.declared.model.builder.Builder.{Builder}
 use Rattle.loom.specs.declared.model.parts.Worked.TheVariants.{Made, Failed}
 use Rattle.loom.specs.Model.Fresh.{machine}
 use Rattle.loom.specs.Model.Loop.{Comes}
-use Rattle.loom.specs.Model.Parts.{HasEndedAbove, HasLed, HasGiven, HasMade, HasFailed, IsOfBody, Works}
+use Rattle.loom.specs.Model.Parts.{HasEndedAbove, HasLed, HasGiven, HasMade, HasFailed, Works}
 use Rattle.loom.specs.Model.Settings.{explores, search_of}
 
 module _ {D : Type 0} (b : Builder) (tree : Tree D) (sound : IsRunTree tree) (part : Part) {V : Type 0} (takes : V → List Choice → D → V → Type 0) (old : V) where

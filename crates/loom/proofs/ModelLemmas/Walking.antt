@@ -1,5 +1,5 @@
 -- A walk under way, and the runs that it makes.
-use Rattle.std.proofs.Common.{◌≡◌, ◌≢◌, ◌≤◌, ◌<◌, ◌+◌, ◌-◌, ◌⊎◌, ℕ, zero, suc, inl, inr, Bool, true, false, List, [], ◌∷◌, length, refl, ap, ap₂, sym, ◌∙◌, subst, arith}
+use Rattle.std.proofs.Common.{◌≡◌, ◌≤◌, ◌<◌, ◌+◌, ◌-◌, ℕ, zero, suc, inl, inr, Bool, false, List, [], ◌∷◌, refl, ap, ap₂, sym, ◌∙◌, subst, arith}
 use Rattle.std.specs.Prelude.{Option, Some, None, Result, Ok, Err, IfOk, IfSome, Vec}
 use Rattle.std.specs.declared.alloc.Global.{Global}
 use Rattle.std.specs.declared.time.Duration.{Duration}
@@ -29,7 +29,7 @@ use Rattle.loom.specs.Model.Check.{HasLasted}
 use Rattle.loom.specs.Model.Different.{Counted, IsCount, Notes, TellsDifferent, hash_of}
 use Rattle.loom.specs.Model.Fresh.{IsReplay}
 use Rattle.loom.specs.Model.Run.{IsLocated}
-use Rattle.loom.specs.Model.Walking.{EndsDrawn, HasFailed, HasGiven, IsDrawnRun, RunsDrawn, TakesRun, Walks, WalksNoEqualOrders, asked_runs, is_cut}
+use Rattle.loom.specs.Model.Walking.{EndsDrawn, HasGiven, IsDrawnRun, RunsDrawn, TakesRun, Walks, WalksNoEqualOrders, asked_runs, is_cut}
 use Rattle.loom.proofs.ModelLemmas.Noting.{Tells, are_different, tells_more, tells_none}
 use Rattle.loom.proofs.ModelLemmas.Replaying.{replays}
 

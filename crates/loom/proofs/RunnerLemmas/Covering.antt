@@ -1,11 +1,10 @@
 -- A turn of several workers that cover a body: some of its parts are given back, and the others are still out.
-use Rattle.std.proofs.Common.{◌≡◌, ◌⊎◌, ◌<◌, ◌≤◌, ◌+◌, ◌*◌, ◌^◌, ℕ, zero, suc, inl, inr, true, false, Bool, List, [], ◌∷◌, ◌++◌, max, length, length-append, Some, None, refl, ap, sym, ◌∙◌, subst, arith, append_assoc, append-nil}
+use Rattle.std.proofs.Common.{◌≡◌, ◌⊎◌, ◌<◌, ◌≤◌, ◌+◌, ◌*◌, ◌^◌, ℕ, suc, inl, inr, true, false, Bool, List, [], ◌∷◌, ◌++◌, length, length-append, Some, None, refl, ap, sym, ◌∙◌, subst, arith, append_assoc, append-nil}
 use Rattle.std.specs.Prelude.{Result, Ok, Err, IfOk, slice_get, slice_index_or}
 use Rattle.std.proofs.Math.Nat.{suc-mul, mul-le-mul_right}
 use Rattle.std.specs.declared.time.Duration.{Duration}
 use Rattle.loom_objects.specs.declared.choice.Choice.{Choice}
 use Rattle.loom_engine.specs.Path.Nodes.{stored}
-use Rattle.loom_engine.specs.Parts.Cuts.{Part}
 use Rattle.loom_engine.specs.Parts.Keeping.{GivesBack, KeepsOthers, keys, views}
 use Rattle.loom_engine.specs.Runs.Body.{Meaning}
 use Rattle.loom_engine.specs.Trees.Marks.{marking}

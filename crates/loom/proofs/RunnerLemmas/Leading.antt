@@ -19,8 +19,8 @@ use Rattle.loom_engine.specs.Execution.{ExecutionState, ShowsCourse, SubmitsAt, 
 use Rattle.loom.specs.declared.runner.stop.Stop.{Stop}
 use Rattle.loom.specs.declared.runner.history.event.Event.{Event}
 use Rattle.loom.specs.Runner.Events.{HasStayed, IsAdded, last_event, end_after, end_in, outcome_by}
-use Rattle.loom.specs.Runner.Drawn.{AddsBy, GoesOn, HandedAt, HandedBy, KeptBy, KeptDrawn, LeadsBy, MayLead, Spot, led, led_log, passed_of, turn_of}
-use Rattle.loom.specs.Runner.Histories.{Moment, moment, first, active_at, answered, Handed, Happens, IsOf, Leads, Kept, Goes, Log, Adds, passed_at}
+use Rattle.loom.specs.Runner.Drawn.{AddsBy, GoesOn, HandedAt, HandedBy, KeptBy, KeptDrawn, LeadsBy, MayLead, Spot, led, passed_of, turn_of}
+use Rattle.loom.specs.Runner.Histories.{Moment, moment, first, answered, Handed, Happens, IsOf, Leads, Kept, Goes, Log}
 
 -- a history goes on by one event
 pub leads_snoc : {D : Type 0} (m k n : Moment D) (es : List (Event D)) (e : Event D) → Leads m es k → IsOf k e → Happens k e.op e.outcome n → Leads m (es ++ e ∷ []) n

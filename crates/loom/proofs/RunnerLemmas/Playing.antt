@@ -1,36 +1,33 @@
 -- A run that is made of what is recorded: one event more, and its end.
-use Rattle.std.proofs.Common.{◌≡◌, ◌+◌, ◌<◌, ℕ, suc, List, [], ◌∷◌, ◌++◌, length, refl, sym, ap, ◌∙◌, subst, arith}
-use Rattle.std.specs.Prelude.{⊤, Bool, false, IfOk, IfSome, OnOk, Option, Some, None, Result, Ok, Err, get_or, slice_get, slice_set}
+use Rattle.std.proofs.Common.{◌≡◌, ◌+◌, ℕ, List, [], ◌∷◌, ◌++◌, refl, sym, ap, ◌∙◌, subst}
+use Rattle.std.specs.Prelude.{⊤, IfOk, IfSome, OnOk, Option, Some, None, Result, Ok, Err, slice_set}
 use Rattle.std.proofs.lemmas.Option.{get_or_from_slice_get, slice_get_within}
 use Rattle.loom_views.specs.declared.rt.failure.FailureKind.{FailureKind}
 use Rattle.loom_objects.specs.Operation.Labelled.{Op}
 use Rattle.loom_objects.specs.Operation.Plain.{plain, started}
-use Rattle.loom_objects.specs.declared.failure.Failure.{Failure as Because}
 use Rattle.loom_objects.specs.declared.failure.Stop.{Stop}
 use Rattle.loom_objects.specs.declared.failure.Stop.TheVariants as stop
 use Rattle.loom_objects.specs.declared.operation.Request.{Request}
 use Rattle.loom_objects.specs.declared.operation.Reply.{Reply}
-use Rattle.loom_objects.specs.declared.operation.Reply.TheVariants as reply
 use Rattle.loom_objects.specs.declared.operation.Turn.{Turn}
 use Rattle.loom_objects.specs.declared.operation.Turn.TheVariants as turn
 use Rattle.loom_engine.specs.declared.rt.execution.Limits.{Limits}
 use Rattle.loom_engine.specs.declared.rt.execution.Progress.{Progress}
-use Rattle.loom_engine.specs.Execution.{Along, ExecutionState, ShowsCourse, Submits, SubmitsAt, over_after}
-use Rattle.loom_engine.specs.Path.Route.{IsAtStart, IsSameSearch, Route, Steps, at_rest, chosen, drives, trail}
-use Rattle.loom_engine.specs.Runs.Body.{Meaning, with_child}
-use Rattle.loom_engine.specs.Runs.Course.{Course, opening}
+use Rattle.loom_engine.specs.Execution.{Along, ExecutionState, ShowsCourse, Submits}
+use Rattle.loom_engine.specs.Path.Route.{IsSameSearch, Route, trail}
+use Rattle.loom_engine.specs.Runs.Body.{with_child}
+use Rattle.loom_engine.specs.Runs.Course.{opening}
 use Rattle.loom_engine.specs.Runs.Machine.{submit}
 use Rattle.loom_explain.specs.declared.event.Event.{Event}
 use Rattle.loom.specs.Explain.Story.{Story, event_of, story_of}
 use Rattle.loom.specs.Model.Run.{IsEndBy, RunsAlong}
-use Rattle.loom.specs.Model.Turns.{ComesToTurn, EndsWith, IsUnderWay}
+use Rattle.loom.specs.Model.Turns.{ComesToTurn, IsUnderWay}
 use Rattle.loom.specs.declared.model.run.Ending.{Ending}
 use Rattle.loom.specs.declared.model.run.Ending.TheVariants.{Ended, Failed}
 use Rattle.loom.specs.declared.runner.history.event.Event.{Event as RunEvent}
-use Rattle.loom.specs.Runner.Chains.{Run}
-use Rattle.loom.specs.Runner.Histories.{Happens, Leads, Moment, active_at, answered, ended_by, first, last_event, moment, passed_at}
+use Rattle.loom.specs.Runner.Histories.{Leads, Moment, active_at, ended_by, first, moment, passed_at}
 use Rattle.loom.specs.Runner.Recorded.{Function, Word, begun_by, by_function, runs_by, spawned, tells}
-use Rattle.loom.specs.Runner.Recording.{Answers, AreAt, EndsThere, HandsOver, HasRun, IsTrueOf, LeadsTo}
+use Rattle.loom.specs.Runner.Recording.{EndsThere, HandsOver, HasRun, LeadsTo}
 use Rattle.loom.proofs.ExplainLemmas.Turning.{comes, driven}
 use Rattle.loom.proofs.ModelLemmas.Handing.{IsHanded, before_the_end}
 use Rattle.loom.proofs.RunnerLemmas.Leading.{last_snoc, leads_snoc}

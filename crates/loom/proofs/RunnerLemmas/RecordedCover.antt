@@ -1,6 +1,6 @@
 -- Runs of what is recorded that note states, and the checks of such runs.
-use Rattle.std.proofs.Common.{◌≡◌, ◌≤◌, ◌+◌, ℕ, suc, Bool, true, List, [], ◌∷◌, ◌++◌, length, map, refl, sym, ap, ap₂, ◌∙◌, subst, inl, inr, arith}
-use Rattle.std.specs.Prelude.{◌⊎◌, ⊤, IfOk, IfSome, OnErr, OnOk, Option, Some, None, Result, Ok, Err, option_map, slice_get, slice_set}
+use Rattle.std.proofs.Common.{◌≡◌, ◌≤◌, ◌+◌, ℕ, Bool, List, [], ◌∷◌, ◌++◌, map, refl, sym, ap, ap₂, ◌∙◌, subst, inl, inr, arith}
+use Rattle.std.specs.Prelude.{⊤, IfOk, IfSome, OnErr, OnOk, Option, Some, None, Result, Ok, Err, option_map, slice_set}
 use Rattle.std.proofs.lemmas.List.{map-append}
 use Rattle.std.proofs.lemmas.Option.{get_or_from_slice_get, slice_get-map, slice_get_within}
 use Rattle.std.specs.declared.time.Duration.{Duration}
@@ -8,7 +8,6 @@ use Rattle.loom_views.specs.declared.rt.views.Views.{Views}
 use Rattle.loom_objects.specs.Operation.Labelled.{Op}
 use Rattle.loom_objects.specs.Operation.Plain.{plain, started}
 use Rattle.loom_objects.specs.declared.choice.Choice.{Choice}
-use Rattle.loom_objects.specs.declared.failure.Stop.{Stop}
 use Rattle.loom_objects.specs.declared.failure.Stop.TheVariants.{Failure as Because, Memory}
 use Rattle.loom_objects.specs.declared.operation.Request.{Request}
 use Rattle.loom_objects.specs.declared.operation.Reply.{Reply}
@@ -39,7 +38,7 @@ use Rattle.loom.specs.Model.Stores.{Keeps}
 use Rattle.loom.specs.Runner.Check.{limits_of}
 use Rattle.loom.specs.Runner.Handle.{Teller}
 use Rattle.loom.specs.Runner.Made.{Made}
-use Rattle.loom.specs.Runner.Recorded.{AreDone, CoversRecorded, Function, HasMadeOne, IsDone, StillHoldsRecorded, Word, begun_by, by_function, spawned, tells}
+use Rattle.loom.specs.Runner.Recorded.{CoversRecorded, Function, HasMadeOne, IsDone, StillHoldsRecorded, Word, begun_by, by_function, spawned, tells}
 use Rattle.loom.specs.Runner.Recording.{Answers, AreAt, HandsOver, IsTrueOf, Records, RecordsMore, RecordsRun, all_told, told_at, told_in}
 use Rattle.loom.proofs.ModelLemmas.CoverRounds.{IsChecking, checking_left, left_late}
 use Rattle.loom.proofs.ModelLemmas.Covering.{ended_so, hands}

@@ -1,13 +1,13 @@
 -- A part of a search of recorded closures under way: the runs that were made of the closure, and that all runs are those of each function
 -- that does what was done in them.
 use Rattle.std.proofs.Common.{◌≡◌, ◌+◌, ℕ, List, [], ◌∷◌, length, refl, sym, ap, ap₂, ◌∙◌, subst, inl}
-use Rattle.std.specs.Prelude.{Bool, true, false, IfSome, Option, Some, None, Result, Ok, Err, Vec}
+use Rattle.std.specs.Prelude.{Bool, true, false, Result, Err, Vec}
 use Rattle.std.specs.declared.alloc.Global.{Global}
 use Rattle.loom_objects.specs.Exploring.{initially}
 use Rattle.loom_objects.specs.Tree.Tree.{Tree}
 use Rattle.loom_objects.specs.declared.choice.Choice.{Choice}
 use Rattle.loom_objects.specs.declared.failure.Failure.{Failure}
-use Rattle.loom_engine.specs.Path.Route.{IsAtStart, IsSameSearch, Route, at_rest, chosen}
+use Rattle.loom_engine.specs.Path.Route.{IsAtStart, IsSameSearch, Route, at_rest}
 use Rattle.loom_engine.specs.Runs.Sound.{IsRunTree}
 use Rattle.loom_engine.specs.Trees.Meeting.{Settings}
 use Rattle.loom_engine.specs.declared.rt.execution.Limits.{Limits}

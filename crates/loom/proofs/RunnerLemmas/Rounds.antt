@@ -1,7 +1,7 @@
 -- A check of recorded closures under way: the runs that were made of the closure, and that all runs are those of each function that does
 -- what was done in them.
-use Rattle.std.proofs.Common.{◌≡◌, ◌+◌, ◌<◌, ◌≤◌, ℕ, suc, List, [], ◌∷◌, refl, sym, ap, ap₂, ◌∙◌, subst, arith}
-use Rattle.std.specs.Prelude.{All, Bool, true, false, IfOk, IfSome, Option, Some, None, Result, Ok, Err, String, Vec, string_bytes}
+use Rattle.std.proofs.Common.{◌≡◌, ◌+◌, ◌<◌, ◌≤◌, ℕ, List, [], ◌∷◌, refl, sym, ap, ap₂, ◌∙◌, subst, arith}
+use Rattle.std.specs.Prelude.{Bool, true, false, IfOk, IfSome, Option, Some, None, Result, Ok, Err, String, Vec, string_bytes}
 use Rattle.std.proofs.Common.{inl, inr}
 use Rattle.std.specs.declared.alloc.Global.{Global}
 use Rattle.std.specs.declared.time.Duration.{Duration}
@@ -9,7 +9,7 @@ use Rattle.loom_objects.specs.Exploring.{initially}
 use Rattle.loom_objects.specs.Tree.Tree.{Tree}
 use Rattle.loom_objects.specs.declared.choice.Choice.{Choice}
 use Rattle.loom_objects.specs.declared.failure.Failure.{Failure}
-use Rattle.loom_engine.specs.Path.Route.{IsAtStart, IsSameSearch, Route, at_rest, chosen}
+use Rattle.loom_engine.specs.Path.Route.{IsAtStart, IsSameSearch, Route, at_rest}
 use Rattle.loom_engine.specs.Runs.Sound.{IsRunTree}
 use Rattle.loom_engine.specs.Trees.Sound.{EndsUnchosen}
 use Rattle.loom_engine.specs.Trees.Meeting.{Settings}
@@ -17,7 +17,6 @@ use Rattle.loom_engine.specs.declared.rt.execution.Limits.{Limits}
 use Rattle.loom_engine.proofs.Runs.Bodies.{run_tree_law, unchosen_law}
 use Rattle.loom.specs.declared.model.builder.Builder.{Builder}
 use Rattle.loom.specs.declared.model.Limit.{Limit}
-use Rattle.loom.specs.declared.model.report.Report.{Report}
 use Rattle.loom.specs.declared.model.report.Report.TheVariants.{Complete, Stopped, Failed}
 use Rattle.loom.specs.declared.model.rounds.Round.{Round}
 use Rattle.loom.specs.declared.model.rounds.Round.TheVariants.{Next, Last}

@@ -1,11 +1,10 @@
 -- A turn under way: some of its parts are given back, and the others are still out.
-use Rattle.std.proofs.Common.{◌≡◌, ◌⊎◌, ◌≤◌, ◌<◌, ◌+◌, ◌*◌, ◌/◌, ◌^◌, ℕ, suc, max, length-append, inl, inr, Bool, List, [], ◌∷◌, ◌++◌, length, Option, Some, None, refl, ap, sym, ◌∙◌, subst, arith, append-nil}
+use Rattle.std.proofs.Common.{◌≡◌, ◌⊎◌, ◌≤◌, ◌<◌, ◌+◌, ◌*◌, ◌^◌, ℕ, suc, length-append, inl, inr, Bool, List, [], ◌∷◌, ◌++◌, length, Some, None, refl, ap, sym, ◌∙◌, subst, arith, append-nil}
 use Rattle.std.specs.Prelude.{Result, Ok, Err, IfOk}
 use Rattle.std.proofs.Math.Nat.{suc-mul, mul-le-mul_right}
 use Rattle.loom_objects.specs.declared.choice.Choice.{Choice}
 use Rattle.loom_objects.specs.Tree.Tree.{Tree}
 use Rattle.loom_engine.specs.Walk.Lists.{Member, IsOnce}
-use Rattle.loom_engine.specs.Walk.Runs.{Reachable}
 use Rattle.loom_engine.specs.Runs.Sound.{IsRunTree}
 use Rattle.loom_engine.specs.Trees.Outcomes.{outcome, AreRuns, choices_made}
 use Rattle.loom_engine.specs.Parts.Keeping.{IsAt, GivesBack, KeepsOthers}
@@ -20,10 +19,10 @@ use Rattle.loom.specs.declared.runner.parallel.round.Lost.{Lost}
 use Rattle.loom.specs.declared.runner.parallel.round.Turn.{Turn}
 use Rattle.loom.specs.Model.Fresh.{machine}
 use Rattle.loom.specs.Model.Settings.{search_of}
-use Rattle.loom.specs.Runner.Parallel.{FailsSo, HasGoneOn}
+use Rattle.loom.specs.Runner.Parallel.{HasGoneOn}
 use Rattle.loom.specs.Runner.Workers.{AreHandedOut, AreWorkedOn, EachMayBeWorkedOn, TakesBack, TakesTurn, IsAtMost, AreAtMost, bases, HasRoom, IsOut, AreOut, HasTaken, IsTaken}
 use Rattle.loom_engine.proofs.Parts.Giving.{bases_once}
-use Rattle.loom.proofs.RunnerLemmas.Workers.{may_each, outs, bases_apart, is_machine, out_front, member_front, member_last, once_front, at_most_front, still_out, still_lost, same_base, HasLost, lost_out, lost_fails, gone_nowhere, gone_further, one_back}
+use Rattle.loom.proofs.RunnerLemmas.Workers.{may_each, outs, bases_apart, is_machine, out_front, member_front, member_last, once_front, at_most_front, still_out, still_lost, HasLost, lost_out, lost_fails, gone_nowhere, gone_further, one_back}
 
 module _ {G V D : Type 0} (takes : V → List Choice → D → V → Type 0) (is_new : V → Type 0) (joins : G → V → G → Type 0) (b : Builder) (tree : Tree D) (made : List (List Choice)) (old : G) where
   pub record IsTaking (parts : Parts) (mid : G) (turn : Turn) (rest : List (Done V)) : Type 0 where

@@ -1,25 +1,24 @@
 -- A turn of several workers, and what a list of parts has come to by it.
-use Rattle.std.proofs.Common.{◌≡◌, ◌⊎◌, ◌<◌, ◌≤◌, ◌+◌, ◌*◌, ℕ, zero, suc, inl, inr, true, false, Bool, List, [], ◌∷◌, ◌++◌, map, length, length-append, Option, Some, None, refl, ap, ap₂, sym, ◌∙◌, subst, arith, append_assoc, append-nil, remove}
+use Rattle.std.proofs.Common.{◌≡◌, ◌⊎◌, ◌<◌, ◌≤◌, ◌+◌, ℕ, zero, suc, inl, inr, true, false, Bool, List, [], ◌∷◌, ◌++◌, map, length, length-append, Some, refl, ap, ap₂, sym, ◌∙◌, subst, arith, append_assoc, append-nil, remove}
 use Rattle.std.specs.Prelude.{Result, Ok, Err, IfOk, slice_get, slice_index_or}
-use Rattle.loom_views.specs.declared.rt.failure.FailureKind.{FailureKind}
 use Rattle.loom_objects.specs.declared.choice.Choice.{Choice}
 use Rattle.loom_objects.specs.Tree.Tree.{Tree}
 use Rattle.loom_engine.specs.Walk.Machine.{Machine, run}
 use Rattle.loom_engine.specs.Walk.Sound.{IsMachine}
-use Rattle.loom_engine.specs.Walk.Path.{Stored, choices, IsResting, Rest, by_path, after_run}
+use Rattle.loom_engine.specs.Walk.Path.{Stored, choices, IsResting, by_path}
 use Rattle.loom_engine.specs.Walk.Walks.{run_of}
 use Rattle.loom_engine.specs.Walk.Runs.{Reachable}
 use Rattle.loom_engine.specs.Walk.Lists.{Member, IsOnce}
 use Rattle.loom_engine.specs.Runs.Sound.{IsRunTree}
 use Rattle.loom_engine.specs.Trees.Marks.{marking}
 use Rattle.loom_engine.specs.Trees.Machines.{IsMarking}
-use Rattle.loom_engine.specs.Trees.Outcomes.{outcome, AreRuns, choices_made}
+use Rattle.loom_engine.specs.Trees.Outcomes.{AreRuns, choices_made}
 use Rattle.loom_engine.specs.Path.Nodes.{stored}
-use Rattle.loom_engine.specs.Parts.Cuts.{Part, IsIn}
-use Rattle.loom_engine.specs.Parts.Floors.{seal_to, step_above}
+use Rattle.loom_engine.specs.Parts.Cuts.{Part}
+use Rattle.loom_engine.specs.Parts.Floors.{seal_to}
 use Rattle.loom_engine.specs.Parts.Works.{view, Work, Gathers}
 use Rattle.loom_engine.specs.Parts.Slices.{noted_in, Slice, first, further}
-use Rattle.loom_engine.specs.Parts.Keeping.{part_of, views_onto, views, keys, IsAt, IsCopy, HasMadeAll, Leaves, GivesBack, KeepsOthers}
+use Rattle.loom_engine.specs.Parts.Keeping.{part_of, views_onto, views, keys, IsAt, IsCopy, Leaves, GivesBack, KeepsOthers}
 use Rattle.loom_engine.specs.declared.rt.parts.Part.{Part as Kept}
 use Rattle.loom_engine.specs.declared.rt.parts.Parts.{Parts}
 use Rattle.loom_engine.proofs.Trees.Machines.{machine_law}
@@ -27,12 +26,12 @@ use Rattle.loom_engine.proofs.Trees.Marks.{marking_law}
 use Rattle.loom_engine.proofs.Parts.Disjoint.{disjoint_law}
 use Rattle.loom_engine.proofs.Parts.Driven.{rests_on}
 use Rattle.loom_engine.proofs.Parts.Floors.{to_choices}
-use Rattle.loom_engine.proofs.Parts.Giving.{fronted, bases_once}
+use Rattle.loom_engine.proofs.Parts.Giving.{fronted}
 use Rattle.loom_engine.proofs.Parts.Keeping.{work_steps}
 use Rattle.loom_engine.proofs.Parts.Lasting.{parts_law}
 use Rattle.loom_engine.proofs.Parts.Lists.{bases as bases_of}
 use Rattle.loom_engine.proofs.Parts.Slices.{noted_is, is_noted, slice_law, left_begins}
-use Rattle.loom_engine.proofs.Parts.Works.{work_law, order_of}
+use Rattle.loom_engine.proofs.Parts.Works.{work_law}
 use Rattle.loom.specs.declared.model.builder.Builder.{Builder}
 use Rattle.loom.specs.declared.model.error.CheckError.{CheckError}
 use Rattle.loom.specs.declared.model.parts.Worked.{Worked}
@@ -41,7 +40,7 @@ use Rattle.loom.specs.declared.runner.parallel.round.Done.{Done}
 use Rattle.loom.specs.declared.runner.parallel.round.Job.{Job}
 use Rattle.loom.specs.declared.runner.parallel.round.Lost.{Lost}
 use Rattle.loom.specs.Model.Fresh.{machine}
-use Rattle.loom.specs.Model.Parts.{GivenBack, HasGiven, HasMade, HasLed, Works, HasFailed as HasFailedIn}
+use Rattle.loom.specs.Model.Parts.{HasMade, HasLed, HasFailed as HasFailedIn}
 use Rattle.loom.specs.Model.Settings.{search_of}
 use Rattle.loom.specs.Runner.Parallel.{AreJoined, none, one_more, FailsSo, HasGoneOn}
 use Rattle.loom.specs.Runner.Workers.{AreHandedOut, CameTo, IsWorkedOn, AreWorkedOn, MayBeWorkedOn, EachMayBeWorkedOn, IsAtMost, AreAtMost, bases, IsOut, AreOut}

@@ -1,5 +1,5 @@
 -- The text with which a covering check goes on: that of a path, with a key of its own, `search`, which says `cover`.
-use Rattle.std.specs.Prelude.{ℕ, ◌≡◌, ◌≢◌, ◌⊎◌, Bool, cond, List, [], codes, Option, Some, None, IsUtf8}
+use Rattle.std.specs.Prelude.{ℕ, ◌≡◌, ◌⊎◌, Bool, cond, List, [], codes, Option, Some, None, IsUtf8}
 use Rattle.std.specs.Cmp.Lexicographic.{slice_cmp}
 use Rattle.std.specs.Ordering.{is_eq, nat_cmp}
 use Rattle.serde_json.specs.Data.{Data, object, string, Members, no_members, member, put}

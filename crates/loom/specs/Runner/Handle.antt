@@ -4,7 +4,6 @@ use Rattle.loom_objects.specs.declared.operation.Name.{Name}
 use Rattle.loom_objects.specs.declared.operation.Request.{Request}
 use Rattle.loom_objects.specs.declared.operation.Request.TheVariants.{Thread}
 use Rattle.loom_objects.specs.declared.operation.Reply.{Reply}
-use Rattle.loom_objects.specs.declared.operation.Reply.TheVariants.{Spawned}
 use Rattle.loom_objects.specs.declared.operation.ThreadOp.TheVariants.{Spawn, Exit}
 use Rattle.loom.specs.declared.runner.stop.Stop.{Stop}
 use Rattle.loom.specs.declared.runner.stop.Stop.TheVariants.{Failure, Memory, Refused}

@@ -1,7 +1,7 @@
 -- What a check by several workers promises. A list of parts that has come from the beginning of a search, with the runs that were made
 -- before, comes by further runs to another list (`HasGoneOn`). The visitors of the parts were given these runs, and were joined
 -- (`AreJoined`). Where no part is left the runs made are all that are reachable, each once (`IsComplete`), in whatever order.
-use Rattle.std.specs.Prelude.{ℕ, ◌≡◌, ◌<◌, ◌≤◌, ◌⊎◌, List, [], ◌∷◌, ◌++◌, Some, Result, Ok, Err, length}
+use Rattle.std.specs.Prelude.{ℕ, ◌≡◌, ◌<◌, ◌≤◌, List, [], ◌++◌, Some, Ok, Err, length}
 use Rattle.std.specs.declared.time.Duration.{Duration}
 use Rattle.loom_views.specs.declared.rt.failure.FailureKind.{FailureKind}
 use Rattle.loom_objects.specs.declared.choice.Choice.{Choice}
@@ -9,7 +9,6 @@ use Rattle.loom_objects.specs.Tree.Tree.{Tree}
 use Rattle.loom_engine.specs.Walk.Runs.{Reachable}
 use Rattle.loom_engine.specs.Walk.Lists.{Member}
 use Rattle.loom_engine.specs.Trees.Outcomes.{outcome, AreRuns, choices_made}
-use Rattle.loom_engine.specs.Trees.Replay.{replayed}
 use Rattle.loom_engine.specs.Parts.Keeping.{IsAt, HasMadeAll}
 use Rattle.loom_engine.specs.declared.rt.parts.Parts.{Parts}
 use Rattle.loom.specs.declared.model.builder.Builder.{Builder}

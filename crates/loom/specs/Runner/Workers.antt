@@ -1,5 +1,5 @@
 -- A turn of several workers: what is handed out, what comes back, and what the list of parts has come to then.
-use Rattle.std.specs.Prelude.{ℕ, suc, ◌≡◌, ◌≤◌, ◌<◌, ◌+◌, ◌^◌, ◌⊎◌, Bool, List, [], ◌∷◌, ◌++◌, map, max, Some, Result, Ok, Err, slice_get}
+use Rattle.std.specs.Prelude.{ℕ, suc, ◌≡◌, ◌≤◌, ◌<◌, ◌+◌, ◌^◌, ◌⊎◌, Bool, List, [], ◌∷◌, ◌++◌, map, Some, Result, Ok, Err, slice_get}
 use Rattle.loom_objects.specs.declared.choice.Choice.{Choice}
 use Rattle.loom_objects.specs.Tree.Tree.{Tree}
 use Rattle.loom_engine.specs.Runs.Sound.{IsRunTree}
@@ -10,7 +10,6 @@ use Rattle.loom_engine.specs.declared.rt.parts.Part.{Part}
 use Rattle.loom_engine.specs.declared.rt.parts.Parts.{Parts}
 use Rattle.loom.specs.declared.model.builder.Builder.{Builder}
 use Rattle.loom.specs.declared.model.error.CheckError.{CheckError}
-use Rattle.loom.specs.declared.model.parts.Slice.{Slice}
 use Rattle.loom.specs.declared.model.parts.Worked.{Worked}
 use Rattle.loom.specs.declared.model.parts.Worked.TheVariants.{Made, Failed}
 use Rattle.loom.specs.declared.runner.parallel.round.Done.{Done}
@@ -18,7 +17,7 @@ use Rattle.loom.specs.declared.runner.parallel.round.Job.{Job}
 use Rattle.loom.specs.declared.runner.parallel.round.Lost.{Lost}
 use Rattle.loom.specs.declared.runner.parallel.round.Turn.{Turn}
 use Rattle.loom.specs.Model.Fresh.{machine}
-use Rattle.loom.specs.Model.Parts.{IsWithin, Works}
+use Rattle.loom.specs.Model.Parts.{Works}
 use Rattle.loom.specs.Model.Settings.{search_of}
 use Rattle.loom.specs.Runner.Parallel.{FailsSo, HasGoneOn}
 

@@ -1,5 +1,5 @@
 //! A checkpoint's text in a file, and the file of a check.
-ghost use Rattle.std.specs.Prelude.{List, ℕ, Some, ◌≡◌, ◌↔◌, ◌≢◌, None, OnOk, OnErr, IfOk, IfSome, MatchOption, string_bytes};
+ghost use Rattle.std.specs.Prelude.{Some, ◌≡◌, ◌↔◌, None, OnOk, OnErr, IfOk, IfSome, MatchOption, string_bytes};
 ghost use Rattle.loom.specs.Model.Stores.{Counts, Keeps, KeepsFiles, KeepsOthers, KeepsThird, beside, text_in};
 
 use crate::checkpoint::files::{HostFiles, TextFiles};

@@ -1,6 +1,5 @@
 //! A checkpoint's text in memory.
 ghost use Rattle.std.specs.Prelude.{◌≡◌, None};
-ghost use Rattle.std.specs.Option.{option_map};
 ghost use Rattle.loom.specs.Model.Stores.{text_in};
 
 use crate::checkpoint::store::{CheckpointStore, StoreError};

@@ -1,5 +1,5 @@
 //! Checks of a part of a search, some runs at a time (own).
-ghost use Rattle.std.specs.Prelude.{◌≡◌, ◌≢◌, ◌≤◌, ◌<◌, ◌+◌, ◌^◌, ◌⊎◌, Err, IfOk, IfErr, IfSome, OnErr, false, length};
+ghost use Rattle.std.specs.Prelude.{◌≡◌, ◌≤◌, ◌<◌, ◌+◌, ◌^◌, ◌⊎◌, Err, IfOk, IfErr, IfSome, OnErr, false};
 ghost use Rattle.loom_engine.specs.Path.Route.{IsAtStart, at_rest};
 ghost use Rattle.loom_engine.specs.Runs.Body.{runs as runs_of};
 ghost use Rattle.loom.specs.Model.Parts.{ComesToAbove, CountsRuns, IsWithin, Works};

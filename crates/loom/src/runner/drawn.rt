@@ -1,5 +1,5 @@
 //! One run of a closure whose choices are drawn as it comes to them (own).
-ghost use Rattle.std.specs.Prelude.{◌≡◌, ◌≤◌, IfOk, IfErr};
+ghost use Rattle.std.specs.Prelude.{◌≤◌, IfOk, IfErr};
 ghost use Rattle.std.specs.Fn.{CalledAtMut};
 ghost use Rattle.loom_engine.specs.Path.Drawn.{IsDrawn};
 ghost use Rattle.loom_engine.specs.Path.Route.{IsAtStart};

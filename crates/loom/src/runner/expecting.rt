@@ -1,5 +1,4 @@
 //! A check of closures in a test: where it isn't complete, it prints what was found and what happened in the run that failed.
-ghost use Rattle.std.specs.Prelude.{◌≡◌, ◌≤◌};
 ghost use Rattle.std.specs.Fn.{CalledAtMut};
 ghost use Rattle.loom.specs.Runner.Expected.{IsAnswered};
 

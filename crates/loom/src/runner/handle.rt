@@ -34,7 +34,7 @@ use loom_objects::location::Location;
 use loom_objects::operation::{Name, Reply, Request, ThreadOp};
 use loom_objects::text::Text;
 use loom_ops::thread::JoinHandle;
-use std::alloc::{AllocError, Global};
+use std::alloc::Global;
 use std::marker::Model;
 use std::mem;
 use std::sync::{Arc, Wait};

@@ -1,9 +1,9 @@
 -- What a check says that remembers states, by the host's clock, whatever it tells its visitor.
-use Rattle.std.proofs.Common.{◌≡◌, ℕ, List, [], Option, None}
+use Rattle.std.proofs.Common.{◌≡◌, ℕ, List, Option, None}
 use Rattle.std.specs.Prelude.{IfOk, Result, Ok, Err, ⊤}
 use Rattle.loom_objects.specs.declared.choice.Choice.{Choice}
 use Rattle.loom_engine.specs.Runs.Body.{Meaning}
-use Rattle.loom.specs.Model.Covered.{ClaimsTogether, Covering, HaveComeTo, StopsAt}
+use Rattle.loom.specs.Model.Covered.{ClaimsTogether, Covering}
 use Rattle.loom.specs.declared.model.builder.Builder.{Builder}
 use Rattle.loom.specs.declared.model.cover.Covered.{Covered}
 use Rattle.loom.specs.declared.model.cover.Covered.TheVariants.{Complete, Livelock, Stopped, Failed}

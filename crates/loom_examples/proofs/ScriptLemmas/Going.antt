@@ -11,7 +11,7 @@ use Rattle.loom_examples.specs.declared.scripts.step.Step.TheVariants as step
 use Rattle.loom_examples.specs.Scripts.Running.{Running, landing, named_place, place_of, spawned}
 use Rattle.loom_examples.specs.Scripts.Script.{fetched_after, next_of, spawn_at, step_operation}
 use Rattle.loom_examples.specs.Scripts.Slots.{kept}
-use Rattle.loom_examples.specs.Scripts.Written.{Written, SpawnAt, written}
+use Rattle.loom_examples.specs.Scripts.Written.{SpawnAt, written}
 
 -- what such a step asks for, where the thread is behind it, is what comes next
 pub spawns : {E : Type 0} (s behind : Running) (answer : Reply ℕ) (at_place : Step) (slot : ℕ) (name : _) (place start : ℕ) (asked : Request ℕ Running) (made : Result (Op ℕ Running) E)

@@ -1,5 +1,4 @@
 //! What the program prints of a row as one JSON object.
-ghost use Rattle.std.specs.Prelude.{◌≡◌, ◌⊎◌, IfOk};
 
 use crate::bodies::updates::Updater;
 use crate::rows::changes::Changes;

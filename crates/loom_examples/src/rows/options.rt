@@ -1,7 +1,7 @@
 //! The program's command line: its options, and what words with options ask for.
 ghost use Rattle.std.specs.Prelude.{◌≡◌};
 ghost use Rattle.std.specs.List.{list_any};
-ghost use Rattle.loom_examples.specs.Rows.Words.{begins_with, ends_name, is_named, is_option};
+ghost use Rattle.loom_examples.specs.Rows.Words.{ends_name, is_named, is_option};
 
 use crate::rows::changes::Changes;
 use crate::rows::drawing::Drawing;

@@ -12,8 +12,8 @@ use Rattle.loom_views.proofs.Views.Views.{raised-no, raised-yes}
 use Rattle.loom_views.proofs.Atomic.Table.Lists.{get-append_same, get-append_other, get-set_same, get-set_other}
 use Rattle.loom_objects.specs.declared.rt.dependence.Dependence.{Dependence}
 use Rattle.loom_objects.specs.declared.rt.dependence.Use.{Use}
-use Rattle.loom_objects.specs.Dependence.Order.{Order, Access, opening, copies, children, grown, accesses_to, last_before, after_access, after_use}
-use Rattle.loom_objects.specs.Dependence.Shown.{CountsThreadAt, CountsOrder, Keeps, KeepsAs, ShowsOrder}
+use Rattle.loom_objects.specs.Dependence.Order.{Order, Access, opening, copies, children, grown, last_before, after_access, after_use}
+use Rattle.loom_objects.specs.Dependence.Shown.{CountsThreadAt, CountsOrder, Keeps, KeepsAs}
 use Rattle.loom_objects.proofs.Dependence.Grown.{opening-shown}
 use Rattle.loom_objects.proofs.Dependence.Lists.{append-nil, length-copies}
 

@@ -5,7 +5,7 @@ pub mod uses;
 pub mod values;
 pub mod views;
 
-ghost use Rattle.std.specs.Prelude.{ℕ, ◌≡◌, ◌++◌, ◌∷◌, [], ◌<◌, ◌≤◌, None, Some, Ok, Err, IfOk, IfSome, OnOk, OnErr, length, map, slice_get, option_map};
+ghost use Rattle.std.specs.Prelude.{ℕ, ◌≡◌, ◌++◌, ◌∷◌, [], ◌<◌, ◌≤◌, Some, Ok, Err, IfOk, OnOk, length, map, slice_get, option_map};
 ghost use Rattle.std.specs.Borrow.{sem};
 ghost use Rattle.loom_objects.specs.Scene.Lookup.{now_of, shown_of};
 ghost use Rattle.loom_objects.specs.Scene.Lookup as lookup;
@@ -22,7 +22,7 @@ use crate::operation::{Lazy, Reply, Turn};
 use crate::rt::object::Object;
 use crate::rt::run::{Passed, Resumed};
 use crate::rt::schedule::{Yields, no_yields};
-use crate::rt::thread::{Phase, State, Task, Thread};
+use crate::rt::thread::{State, Task, Thread};
 use loom_views::rt::failure::FailureKind;
 use loom_views::rt::views::Views;
 use loom_views::sequence::Sequence;

@@ -19,7 +19,6 @@ mod saves;
 mod texts;
 mod two_files;
 
-ghost use Rattle.std.specs.Prelude.{◌≡◌};
 ghost use Rattle.loom.specs.Model.Stores.{Counts};
 
 use crate::tests::asserting::{same, script};

@@ -1,5 +1,5 @@
 -- What a check of a test promises: its runs are those of the body, and its final states are their results, counted.
-use Rattle.std.specs.Prelude.{ℕ, ◌≡◌, ◌&&◌, Bool, not, is_none, List, [], map, length}
+use Rattle.std.specs.Prelude.{ℕ, ◌≡◌, ◌&&◌, Bool, not, is_none, List, map, length}
 use Rattle.loom_objects.specs.declared.choice.Choice.{Choice}
 use Rattle.loom_objects.specs.Tree.Tree.{Tree}
 use Rattle.loom.specs.Model.Check.{runs_in}

@@ -26,7 +26,6 @@ use Rattle.loom_text.specs.declared.run.code.Program.{Program}
 use Rattle.loom_text.specs.declared.run.code.Update.{Update as Updating}
 use Rattle.loom_text.specs.declared.run.code.Update.TheVariants as update
 use Rattle.loom_text.specs.Run.Code.{code_of, registers_of}
-use Rattle.loom_text.specs.Run.Progress.{Progress}
 use Rattle.loom_text.specs.Run.Running.{Running}
 use Rattle.loom_text.specs.Run.State.{at_first, behind, held, kept, settled}
 

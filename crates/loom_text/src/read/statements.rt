@@ -1,7 +1,6 @@
 //! Statements, as C has them.
-ghost use Rattle.std.specs.Prelude.{◌≡◌};
 ghost use Rattle.loom_text.specs.Deeds.{deed, deeds};
-ghost use Rattle.loom_text.specs.Expressions.{expression_at, phrase};
+ghost use Rattle.loom_text.specs.Expressions.{phrase};
 ghost use Rattle.loom_text.specs.Known.{known};
 ghost use Rattle.loom_text.specs.Statements.{action_with, all_declared, assert_at, assignment_at, block_with, branch_with, call_statement_at, choice_with, declaration_at, declarations_at, effect_at, ended_at, evaluated_at, fence_at, late_repetition_with, otherwise_with, repetition_with, simple_at, standing, statement_at, statement_with, statements_at, store_at, tested_at, value_at, wait_at, within, write_at};
 ghost use Rattle.loom_text.specs.Deeds.{Nothing};

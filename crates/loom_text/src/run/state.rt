@@ -1,6 +1,6 @@
 //! How far a thread of a test is, and what its registers hold.
 ghost use Rattle.std.specs.Prelude.{◌≡◌, ◌+◌, ◌-◌, ◌^◌, ◌<◌, IfOk, false};
-ghost use Rattle.loom_text.specs.Run.State.{answer, at_first, behind, held, kept, moved, put_all, settled};
+ghost use Rattle.loom_text.specs.Run.State.{at_first, held, kept, moved, put_all, settled};
 
 use crate::run::code::{Instruction, Operand};
 use crate::run::values::Values;

@@ -1,5 +1,5 @@
 //! What cells hold and threads result in: numbers.
-ghost use Rattle.std.specs.Prelude.{◌≡◌, ◌∷◌, [], IfOk, take};
+ghost use Rattle.std.specs.Prelude.{◌≡◌, ◌∷◌, [], IfOk};
 
 use loom_objects::data::Data;
 use loom_views::same::Same;

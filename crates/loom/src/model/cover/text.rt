@@ -1,6 +1,6 @@
 //! The text with which a covering check goes on: that of its path, with a key of its own, `search`, which says `cover`. So a plain
 //! check refuses it, and a covering check that of a plain one.
-ghost use Rattle.std.specs.Prelude.{◌≡◌, ◌↔◌, codes, IfOk, IfErr, IsTrue, string_bytes};
+ghost use Rattle.std.specs.Prelude.{◌≡◌, ◌↔◌, IfOk, IfErr, IsTrue, string_bytes};
 ghost use Rattle.serde_json.specs.View.{view};
 ghost use Rattle.serde_json.specs.Written.{compact_text};
 ghost use Rattle.loom_engine.specs.Path.Route.{at_rest, settings};

@@ -1,5 +1,5 @@
 //! Short forms for atomics: each makes an operation, and takes its reply apart.
-ghost use Rattle.std.specs.Prelude.{◌≡◌, IfOk, IfErr, None};
+ghost use Rattle.std.specs.Prelude.{◌≡◌, IfOk, IfErr};
 ghost use Rattle.std.specs.Fn.{Called, FnOnceReturnsAtMut};
 ghost use Rattle.loom.specs.Runner.Asking.{Tells, Stops, done_in, exchanged_in, loaded_in, as_loaded};
 ghost use Rattle.loom_objects.specs.declared.operation.Request.TheVariants as op;

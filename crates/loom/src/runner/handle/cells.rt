@@ -1,5 +1,5 @@
 //! Short forms for cells: each makes an operation, or the two of an access, and takes the replies apart.
-ghost use Rattle.std.specs.Prelude.{◌≡◌, IfOk, IfErr, None};
+ghost use Rattle.std.specs.Prelude.{◌≡◌, IfOk, IfErr};
 ghost use Rattle.std.specs.Fn.{FnOnceReturnsAt, FnOnceReturnsAtMut};
 ghost use Rattle.loom.specs.Runner.Asking.{Tells, Stops, done_in, given_in};
 ghost use Rattle.loom.specs.Runner.Forms.{IsGivenBack, StopsWithin, beside, reading, read_ending, writing, write_ending};

@@ -1,5 +1,5 @@
 //! Short forms for channels: each makes an operation, and takes its reply apart.
-ghost use Rattle.std.specs.Prelude.{◌≡◌, IfOk, IfErr, None};
+ghost use Rattle.std.specs.Prelude.{◌≡◌, IfOk, IfErr};
 ghost use Rattle.loom.specs.Runner.Asking.{Tells, Stops, done_in, channel_in, drained_in, received_in, sent_in, tried_receive_in};
 ghost use Rattle.loom_objects.specs.declared.operation.Request.TheVariants as op;
 ghost use Rattle.loom_objects.specs.declared.operation.ChannelOp.TheVariants as channel_op;

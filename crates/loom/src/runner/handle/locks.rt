@@ -1,5 +1,5 @@
 //! Short forms for mutexes and read-write locks: each makes an operation, and takes its reply apart.
-ghost use Rattle.std.specs.Prelude.{◌≡◌, IfOk, IfErr, None};
+ghost use Rattle.std.specs.Prelude.{◌≡◌, IfOk, IfErr};
 ghost use Rattle.std.specs.Fn.{FnOnceReturnsAt, FnOnceReturnsAtMut};
 ghost use Rattle.loom.specs.Runner.Asking.{Tells, Stops, done_in, given_in, guard_in, tried_in, tried_read_in, tried_write_in};
 ghost use Rattle.loom.specs.Runner.Forms.{IsGivenBack, StopsWithin, beside, given, locking, releasing};

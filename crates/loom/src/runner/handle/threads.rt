@@ -1,5 +1,5 @@
 //! Short forms for threads and the search: each makes an operation, and takes its reply apart.
-ghost use Rattle.std.specs.Prelude.{◌≡◌, ◌++◌, ◌∷◌, [], IfOk, IfErr, OnOk, None, Ok, Err, Some, true, false};
+ghost use Rattle.std.specs.Prelude.{◌≡◌, ◌++◌, ◌∷◌, [], IfOk, IfErr, OnOk, Ok, Err, Some, true, false};
 ghost use Rattle.std.specs.Fn.{CalledAtMut};
 ghost use Rattle.loom.specs.Runner.Asking.{Tells, Stops, Fails, done_in, joined_in};
 ghost use Rattle.loom.specs.Runner.Forms.{Holds, StopsTrying};

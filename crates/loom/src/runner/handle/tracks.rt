@@ -1,5 +1,5 @@
 //! Short forms for tracked values: each makes an operation, or the two of a change, and takes the replies apart.
-ghost use Rattle.std.specs.Prelude.{◌≡◌, IfOk, IfErr, None};
+ghost use Rattle.std.specs.Prelude.{◌≡◌, IfOk, IfErr};
 ghost use Rattle.std.specs.Fn.{FnOnceReturnsAtMut};
 ghost use Rattle.loom.specs.Runner.Asking.{Tells, Stops, given_in};
 ghost use Rattle.loom.specs.Runner.Forms.{IsGivenBack, StopsWithin, given};

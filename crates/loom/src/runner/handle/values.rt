@@ -1,6 +1,6 @@
 //! Short forms for values that are named by keys, a thread's own and those that are made once a run: each makes an operation, or two
 //! where a closure makes the value, and takes the replies apart.
-ghost use Rattle.std.specs.Prelude.{◌≡◌, IfOk, IfErr, None};
+ghost use Rattle.std.specs.Prelude.{◌≡◌, IfOk, IfErr};
 ghost use Rattle.std.specs.Fn.{FnOnceReturns};
 ghost use Rattle.loom.specs.Runner.Asking.{Tells, Stops, given_in, present_in, standing_in, tried_local_in};
 ghost use Rattle.loom.specs.Runner.Forms.{IsHad, StopsHaving};

@@ -1,5 +1,5 @@
 //! Short forms for condition variables and notifiers: each makes an operation, and takes its reply apart.
-ghost use Rattle.std.specs.Prelude.{◌≡◌, IfOk, IfErr, None};
+ghost use Rattle.std.specs.Prelude.{◌≡◌, IfOk, IfErr};
 ghost use Rattle.std.specs.Fn.{CalledAt};
 ghost use Rattle.loom.specs.Runner.Asking.{Tells, Stops, done_in, guard_in, waited_in};
 ghost use Rattle.loom.specs.Runner.Forms.{Wakes, StopsSleeping};

@@ -1,5 +1,5 @@
 //! Short forms for futures and wakers: each makes an operation, or those that drive a future, and takes the replies apart.
-ghost use Rattle.std.specs.Prelude.{◌≡◌, IfOk, IfErr, None};
+ghost use Rattle.std.specs.Prelude.{◌≡◌, IfOk, IfErr};
 ghost use Rattle.std.specs.Fn.{CalledWithState};
 ghost use Rattle.loom.specs.Runner.Asking.{Tells, Stops, done_in, taken_in};
 ghost use Rattle.loom.specs.Runner.Forms.{Drives, StopsDriving};

@@ -3,7 +3,6 @@
 ghost use Rattle.std.specs.Prelude.{◌≡◌, ◌≤◌, ◌<◌, ◌*◌, ◌+◌, ◌^◌, ℕ, [], Err, IfErr, IfOk, length, max};
 ghost use Rattle.loom.specs.Model.Settings.{tested};
 ghost use Rattle.loom.specs.Runner.Covering.{AreAtMost, AreCovered, Finds, HasRoom, IsAtMost, IsCoveredBy, IsTaken, TakesBack, TakesTurn};
-ghost use Rattle.loom.specs.Runner.Workers.{AreHandedOut};
 
 use crate::model::builder::Builder;
 use crate::model::clock::Clock;

@@ -1,5 +1,5 @@
 //! A run that was made of the closure is put into the recording, event by event.
-ghost use Rattle.std.specs.Prelude.{◌≡◌, ◌<◌, ◌∷◌, length, IfErr, IfOk, IfSome, List, None, OnOk, slice_get, slice_set, vec_len};
+ghost use Rattle.std.specs.Prelude.{◌≡◌, ◌<◌, length, IfErr, IfOk, IfSome, List, None, OnOk, slice_set, vec_len};
 ghost use Rattle.loom_engine.specs.Runs.Body.{with_child};
 ghost use Rattle.loom.specs.Runner.Recorded.{Function, IsDone, Word};
 ghost use Rattle.loom.specs.Runner.Recording.{AreAt, HandsOver, HasAnswered, IsAsked, IsOfRun, IsTrueOf, told_next};

@@ -1,11 +1,11 @@
 //! The loop of a check of recorded closures: a run is made of what is recorded, or of the closure where an answer isn't.
-ghost use Rattle.std.specs.Prelude.{◌≡◌, ◌≤◌, ◌<◌, ◌∷◌, [], IfErr, IfOk, IfSome, List, None, Option, Some};
+ghost use Rattle.std.specs.Prelude.{◌≡◌, ◌≤◌, ◌<◌, ◌∷◌, [], IfErr, IfOk, IfSome, Option, Some};
 ghost use Rattle.std.specs.Fn.{CalledAtMut};
-ghost use Rattle.loom_engine.specs.Path.Route.{IsAtStart, IsSameSearch};
+ghost use Rattle.loom_engine.specs.Path.Route.{IsAtStart};
 ghost use Rattle.loom.specs.Model.Settings.{explores};
 ghost use Rattle.loom.specs.Runner.Check.{limits_of};
 ghost use Rattle.loom.specs.Runner.Made.{Made};
-ghost use Rattle.loom.specs.Runner.Recorded.{Function, HasMadeOne, ReportsRecorded, Word};
+ghost use Rattle.loom.specs.Runner.Recorded.{Function, HasMadeOne, ReportsRecorded};
 ghost use Rattle.loom.specs.Runner.Recording.{EndsRound, GoesOn, IsKnownRun, IsOfRun, IsTrueOf, MakesRound, MakesRun};
 ghost use Rattle.loom.specs.declared.model.rounds.Round.TheVariants.{Next};
 ghost use Rattle.loom.specs.Runner.Refusals.{CountsFaults};

@@ -4,7 +4,7 @@ use loom_text::error::ReadError;
 use loom_text::read::read;
 use loom_text::test::{Condition, Kind, Quantifier, Term, Test};
 use loom_text::write::write;
-use std::alloc::{AllocError, Global};
+use std::alloc::Global;
 use std::process::Abort;
 
 /// What is written of the text, once it is read.

@@ -1,4 +1,3 @@
-use Rattle.std.proofs.Common.{◌≡◌}
 use Rattle.loom_objects.proofs.Replies.{no_list}
 use Rattle.loom_objects.proofs.operation.copy_reply.Goals as goal
 

@@ -1,6 +1,6 @@
 //! What operations do, by their kind: at their beginning, once their thread was chosen, and what they do to their object while
 //! they are pending (loom's `rt/object.rs`).
-ghost use Rattle.std.specs.Prelude.{ℕ, ◌≡◌, slice_get, true, IfOk, OnErr, option_map};
+ghost use Rattle.std.specs.Prelude.{◌≡◌, slice_get, true, IfOk, OnErr, option_map};
 ghost use Rattle.loom_objects.specs.Operation.Accessed.{accessed};
 ghost use Rattle.loom_objects.specs.Stages.ChosenCopy.{TellsCopy, reads, reads_at};
 ghost use Rattle.loom_objects.specs.Rules.Replied.{replied_by, passed_by};

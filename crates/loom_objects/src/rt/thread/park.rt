@@ -1,5 +1,5 @@
 //! `park`, `unpark` and `yield_now` (loom's `rt.rs`).
-ghost use Rattle.std.specs.Prelude.{◌≡◌, Ok};
+ghost use Rattle.std.specs.Prelude.{Ok};
 ghost use Rattle.loom_objects.specs.Scene.Stage.{Does};
 ghost use Rattle.loom_objects.specs.Rules.Thread as rules;
 

@@ -1,7 +1,7 @@
 //! How a location is declared, and named again.
-ghost use Rattle.std.specs.Prelude.{◌≡◌, ◌<◌, [], None, length, map, IfSome};
+ghost use Rattle.std.specs.Prelude.{◌≡◌, ◌<◌, [], None, length, IfSome};
 ghost use Rattle.loom_text.specs.Heads.{agreed, kind_said, location_declared, placed, placed_as};
-ghost use Rattle.loom_text.specs.Known.{located, location_in};
+ghost use Rattle.loom_text.specs.Known.{location_in};
 ghost use Rattle.loom_text.specs.Tokens.{Gives};
 
 use crate::error::Problem;

@@ -1,6 +1,6 @@
 //! The locations that the thread is passed.
 ghost use Rattle.std.specs.Prelude.{◌≡◌, [], map};
-ghost use Rattle.loom_text.specs.Known.{Known, known, located, number_of, parameter_in, parameters_of};
+ghost use Rattle.loom_text.specs.Known.{known, located, number_of, parameter_in, parameters_of};
 ghost use Rattle.loom_text.specs.Named.{LocationsDiffer};
 
 use crate::error::Problem;

@@ -1,11 +1,6 @@
 use Rattle.std.proofs.Common.{◌∙◌, ap, sym, subst, List, inl, inr, refl, rules}
-use Rattle.loom_engine.specs.Path.Drawn.{led_by}
-use Rattle.loom_engine.specs.Path.Route.{chosen}
 use Rattle.loom_objects.specs.declared.choice.Choice.{Choice}
 use Rattle.loom.specs.Model.Different.{hash_of}
-use Rattle.loom.specs.Runner.Drawn.{led_log}
-use Rattle.loom.specs.Runner.Run.{Checked}
-use Rattle.loom.proofs.Closures.Refusing.{is_open}
 use Rattle.loom.proofs.Closures.Walking.{checked_drawn, spoiled_drawn}
 use Rattle.loom.proofs.RunnerLemmas.Made.{ok_gives}
 use Rattle.loom.proofs.runner.drawn.judge.Goals as goal

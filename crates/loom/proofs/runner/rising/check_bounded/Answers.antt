@@ -1,6 +1,4 @@
 use Rattle.std.specs.Fn.{CalledAtMut}
-use Rattle.std.specs.Prelude.{IfOk}
-use Rattle.loom.specs.Runner.Rising.{ReportsAt}
 use Rattle.loom.proofs.Closures.AsAsked.{reports_at}
 use Rattle.loom.proofs.runner.rising.check_bounded.Goals as goal
 

@@ -1,11 +1,10 @@
-use Rattle.std.proofs.Common.{◌≡◌, ◌∙◌, ◌+◌, ℕ, None, Some, ap, inl, inr, refl, sym, subst, arith}
+use Rattle.std.proofs.Common.{◌∙◌, ◌+◌, None, Some, ap, inl, inr, refl, arith}
 use Rattle.std.specs.Fn.{CalledAtMut}
 use Rattle.loom.specs.Model.Stores.{HasRisen}
 use Rattle.loom.specs.declared.runner.run_end.RunEnd.TheVariants.{Ended}
 use Rattle.loom.specs.Runner.Check.{limits_of}
 use Rattle.loom.specs.Runner.Errors.{of_check}
 use Rattle.loom.specs.Model.Refusals.{of_store}
-use Rattle.loom.specs.Runner.Refusals.{GivesUp}
 use Rattle.loom.proofs.Closures.Alike.{completes_alike, fails_alike, goes_on_alike, has_changed, no_change, no_end, none_yet, other_error, are_alike}
 use Rattle.loom.proofs.Closures.Erring.{counted_begin, counted_save, no_beginning, no_save}
 use Rattle.loom.proofs.Closures.Refusing.{breaks_off, handed_on, not_saved, run_faultless}

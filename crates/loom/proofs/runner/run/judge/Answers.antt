@@ -6,7 +6,7 @@ use Rattle.loom.specs.Runner.Chains.{GoesTo}
 use Rattle.loom.specs.Runner.Run.{Checked}
 use Rattle.loom.proofs.RunnerLemmas.Made.{checked, ok_gives}
 use Rattle.loom.proofs.Closures.Alike.{agrees, agrees_if, unlike}
-use Rattle.loom.proofs.Closures.Refusing.{handed_on, is_open, spoiled_so}
+use Rattle.loom.proofs.Closures.Refusing.{handed_on, spoiled_so}
 use Rattle.loom.proofs.runner.run.judge.Goals as goal
 
 pub returns-clause-judged : goal.returns-clause-judged

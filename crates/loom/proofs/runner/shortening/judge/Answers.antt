@@ -1,4 +1,4 @@
-use Rattle.std.proofs.Common.{◌∙◌, ap, ap₂, sym, subst, List, rules}
+use Rattle.std.proofs.Common.{◌∙◌, ap₂, sym, subst, List, rules}
 use Rattle.loom_objects.specs.declared.choice.Choice.{Choice}
 use Rattle.loom.specs.Runner.Alike.{trace}
 use Rattle.loom.specs.Runner.Comparing.{IsRefusedOrSays}

@@ -1,7 +1,7 @@
 use Rattle.std.proofs.Common.{inr, refl}
 use Rattle.std.specs.Fn.{CalledAtMut}
 use Rattle.loom.proofs.Closures.Refusing.{handed_on}
-use Rattle.loom.proofs.Closures.Shortening.{first_ended, first_fails, first_not_tried, first_under_way}
+use Rattle.loom.proofs.Closures.Shortening.{first_fails, first_not_tried, first_under_way}
 use Rattle.loom.proofs.runner.shortening.shorten_along.Goals as goal
 
 pub returns-in_err-end-clause-errors : goal.returns-in_err-end-clause-errors

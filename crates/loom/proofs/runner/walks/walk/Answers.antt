@@ -1,6 +1,4 @@
 use Rattle.std.proofs.Common.{inl, inr, refl, sym}
-use Rattle.std.specs.Fn.{CalledAtMut}
-use Rattle.loom.specs.Runner.Walking.{BreaksOff, IsNoWalk}
 use Rattle.loom.proofs.Closures.Erring.{refused_so, settings_on}
 use Rattle.loom.proofs.Closures.Refusing.{weaker}
 use Rattle.loom.proofs.runner.walks.walk.Goals as goal

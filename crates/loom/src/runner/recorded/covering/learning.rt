@@ -1,7 +1,7 @@
 //! What closures do in the runs of a search that remembers states is recorded, so that a check can be made of that.
 ghost use Rattle.std.specs.Prelude.{◌≡◌, ◌≤◌, IfErr, IfOk};
 ghost use Rattle.std.specs.Fn.{CalledAtMut};
-ghost use Rattle.loom_engine.specs.Path.Route.{IsAtStart, Route, at_rest};
+ghost use Rattle.loom_engine.specs.Path.Route.{at_rest};
 ghost use Rattle.loom_engine.specs.Trees.Meeting.{whole_search};
 ghost use Rattle.loom.specs.Model.Settings.{explores};
 ghost use Rattle.loom.specs.Runner.Check.{limits_of};

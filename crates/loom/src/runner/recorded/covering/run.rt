@@ -1,5 +1,5 @@
 //! One run of a search that remembers states, which is made of what is recorded: of a thread that is noted where it is in the recording.
-ghost use Rattle.std.specs.Prelude.{ℕ, ⊤, ◌≡◌, ◌≤◌, ◌+◌, ◌++◌, [], None, IfErr, IfOk, IfSome, List, OnOk};
+ghost use Rattle.std.specs.Prelude.{ℕ, ⊤, ◌≡◌, ◌≤◌, ◌+◌, [], None, IfErr, IfOk, IfSome, List, OnOk};
 ghost use Rattle.loom_objects.specs.Operation.Labelled.{Op};
 ghost use Rattle.loom_objects.specs.Operation.Plain.{plain, started};
 ghost use Rattle.loom_objects.specs.declared.operation.Request.TheVariants.{Unreachable};

@@ -1,4 +1,4 @@
-use Rattle.std.proofs.Common.{◌≡◌, ◌-◌, ◌≤◌, ℕ, length, ap, ◌∙◌, arith}
+use Rattle.std.proofs.Common.{◌≡◌, ◌-◌, ◌≤◌, length, ap, ◌∙◌, arith}
 use Rattle.loom_objects.specs.Text.{text_of}
 use Rattle.loom_objects.proofs.Values.Cutting.{last_is}
 use Rattle.loom_objects.proofs.text.Text.last.Goals as goal

@@ -1,4 +1,4 @@
-use Rattle.std.proofs.Common.{◌≡◌, ◌∙◌, [], Bool, ap, ap₂, refl, sym}
+use Rattle.std.proofs.Common.{◌∙◌, [], Bool, ap, ap₂, refl, sym}
 use Rattle.loom_objects.specs.Exploring.{initially}
 use Rattle.loom_engine.specs.Path.Route.{Route, at_rest}
 use Rattle.loom_engine.specs.Runs.Body.{runs}

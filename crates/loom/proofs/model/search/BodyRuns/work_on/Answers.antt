@@ -1,12 +1,11 @@
 use Rattle.std.proofs.Common.{ℕ, ◌≡◌, ◌⊎◌, ◌<◌, ◌≤◌, ◌+◌, ◌^◌, max, inl, inr, refl, ap, sym, ◌∙◌, subst, length, arith}
-use Rattle.std.specs.Prelude.{true, false}
+use Rattle.std.specs.Prelude.{false}
 use Rattle.loom_engine.specs.Path.Route.{Route}
 use Rattle.loom_engine.specs.Runs.Body.{runs}
 use Rattle.loom_engine.proofs.Runs.Bodies.{run_tree_law}
 use Rattle.loom_engine.specs.declared.rt.parts.Part.{Part}
 use Rattle.loom.specs.declared.model.parts.Worked.TheVariants.{Failed}
-use Rattle.loom.specs.Model.Loop.{Comes}
-use Rattle.loom.specs.Model.Parts.{HasEndedAbove, Works}
+use Rattle.loom.specs.Model.Parts.{Works}
 use Rattle.loom.specs.Model.Settings.{explores}
 use Rattle.loom.proofs.ModelLemmas.Parts.{working_start, working_on, working_ends, working_fails, working_stops}
 use Rattle.loom.proofs.model.search.BodyRuns.work_on.Goals as goal

@@ -1,4 +1,4 @@
-use Rattle.std.proofs.Common.{◌≡◌, ◌∙◌, ◌++◌, ◌∷◌, [], ap, Some}
+use Rattle.std.proofs.Common.{◌∙◌, ◌++◌, ◌∷◌, [], ap, Some}
 use Rattle.loom.specs.Runner.Histories.{entry}
 use Rattle.loom.proofs.RunnerLemmas.Remembering.{closes_first, closes_second, closes_both}
 use Rattle.loom.proofs.runner.handle.Handle.finish.Goals as goal

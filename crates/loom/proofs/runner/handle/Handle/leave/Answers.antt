@@ -1,4 +1,4 @@
-use Rattle.std.proofs.Common.{◌≡◌, ◌∙◌, Bool, true, false, ap, sym, Result, Ok, Err, OnOk}
+use Rattle.std.proofs.Common.{◌∙◌, ap, sym, Err}
 use Rattle.loom.specs.Runner.Handle.{Teller}
 use Rattle.loom.proofs.RunnerLemmas.Remembering.{on_ok}
 use Rattle.loom.proofs.runner.handle.Handle.leave.Goals as goal

@@ -1,4 +1,4 @@
-use Rattle.std.proofs.Common.{rules, ◌≡◌, ◌++◌, ◌∷◌, []}
+use Rattle.std.proofs.Common.{◌≡◌, ◌++◌, ◌∷◌, []}
 use Rattle.loom.specs.Runner.Explained.{told_events}
 use Rattle.loom.proofs.Closures.Explaining.{told_all, told_on}
 use Rattle.loom.proofs.runner.history.telling.told_events.Goals as goal

@@ -1,6 +1,6 @@
-use Rattle.std.proofs.Common.{◌≡◌, ◌∙◌, ap, ap₂, inl, inr, refl, rules, subst, Option}
+use Rattle.std.proofs.Common.{◌∙◌, ap, ap₂, inl, inr, refl, rules, subst, Option}
 use Rattle.loom_objects.specs.declared.failure.Failure.{Failure}
-use Rattle.loom.specs.Runner.Alike.{Agree, Says, Trace, trace}
+use Rattle.loom.specs.Runner.Alike.{Agree, Says, trace}
 use Rattle.loom.specs.Runner.Comparing.{IsParted}
 use Rattle.loom.proofs.Closures.Alike.{says_at}
 use Rattle.loom.proofs.Closures.Comparing.{moved, none_gives, within}

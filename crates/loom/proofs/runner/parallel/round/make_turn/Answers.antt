@@ -1,4 +1,4 @@
-use Rattle.std.proofs.Common.{◌≡◌, max, arith}
+use Rattle.std.proofs.Common.{max, arith}
 use Rattle.loom_engine.specs.Runs.Body.{runs}
 use Rattle.loom_engine.proofs.Runs.Bodies.{run_tree_law}
 use Rattle.loom.specs.Model.Settings.{explores}

@@ -1,4 +1,4 @@
-use Rattle.std.proofs.Common.{◌≡◌, max, arith, rules}
+use Rattle.std.proofs.Common.{max, arith, rules}
 use Rattle.loom_engine.specs.Runs.Body.{runs}
 use Rattle.loom.specs.Model.Settings.{explores}
 use Rattle.loom.proofs.RunnerLemmas.Workers.{worked_each, at_most_each, if_ok_both}

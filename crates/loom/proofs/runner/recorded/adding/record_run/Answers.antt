@@ -1,5 +1,4 @@
-use Rattle.std.proofs.Common.{◌≡◌, ◌∙◌, List, [], ◌∷◌, arith, rules, sym}
-use Rattle.std.specs.Prelude.{None}
+use Rattle.std.proofs.Common.{◌∙◌, [], ◌∷◌, arith, sym}
 use Rattle.loom.specs.Runner.Recorded.{begun_by, tells}
 use Rattle.loom_engine.specs.Runs.Body.{with_child}
 use Rattle.std.specs.Prelude.{slice_set}

@@ -1,4 +1,4 @@
-use Rattle.std.proofs.Common.{◌≡◌, refl}
+use Rattle.std.proofs.Common.{refl}
 use Rattle.std.specs.Fn.{CalledAtMut}
 use Rattle.loom.proofs.Closures.Erring.{made_error, no_fault}
 use Rattle.loom.proofs.ModelLemmas.Errors.{on_error}

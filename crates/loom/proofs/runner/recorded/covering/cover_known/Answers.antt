@@ -1,4 +1,4 @@
-use Rattle.std.proofs.Common.{◌≡◌, inl, refl}
+use Rattle.std.proofs.Common.{inl, refl}
 use Rattle.loom.proofs.Closures.Erring.{memory_faultless}
 use Rattle.loom.proofs.ModelLemmas.Errors.{on_error}
 use Rattle.loom.proofs.runner.recorded.covering.cover_known.Goals as goal

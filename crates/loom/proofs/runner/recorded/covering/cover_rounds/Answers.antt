@@ -1,4 +1,4 @@
-use Rattle.std.proofs.Common.{◌≡◌, ◌+◌, ◌<◌, ◌≤◌, false, [], inl, refl, arith, rules, ap, sym, ◌∙◌, subst, length}
+use Rattle.std.proofs.Common.{◌≡◌, ◌+◌, ◌<◌, ◌≤◌, false, [], inl, arith, rules, ap, sym, ◌∙◌, subst, length}
 use Rattle.std.proofs.lemmas.List.{length-map}
 use Rattle.loom_engine.specs.Covering.Between.{AddsRun, IsReady, IsWhole}
 use Rattle.loom_engine.specs.Path.Route.{Route, chosen}

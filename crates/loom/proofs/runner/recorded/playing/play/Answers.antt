@@ -1,9 +1,8 @@
-use Rattle.std.proofs.Common.{◌≡◌, [], ◌∷◌, List, ℕ, refl, subst, sym, ◌∙◌, ap}
+use Rattle.std.proofs.Common.{[], ◌∷◌, refl}
 use Rattle.loom_engine.specs.Path.Route.{trail}
 use Rattle.loom_engine.specs.Runs.Course.{opening}
 use Rattle.loom.specs.Explain.Story.{story_of}
 use Rattle.loom.specs.Runner.Recorded.{by_function}
-use Rattle.loom.specs.Runner.Recording.{AreAt}
 use Rattle.loom.proofs.ExplainLemmas.Turning.{begins}
 use Rattle.loom.proofs.RunnerLemmas.Playing.{known_run, known_runs}
 use Rattle.loom.proofs.RunnerLemmas.Recorded.{main_alone}

@@ -1,7 +1,5 @@
-use Rattle.std.proofs.Common.{◌≡◌, ◌∙◌, ◌+◌, ℕ, ap, refl, sym, subst, arith}
+use Rattle.std.proofs.Common.{◌∙◌, arith}
 use Rattle.std.specs.Fn.{CalledAtMut}
-use Rattle.loom.specs.declared.model.rounds.Round.{Round}
-use Rattle.loom.specs.Runner.Recording.{MakesRound}
 use Rattle.loom.proofs.Closures.Erring.{counted_begin, counted_save, made_error, no_fault}
 use Rattle.loom.proofs.ModelLemmas.Checking.{reached_stops}
 use Rattle.loom.proofs.ModelLemmas.Errors.{uncounted}

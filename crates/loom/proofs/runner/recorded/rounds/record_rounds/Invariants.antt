@@ -1,4 +1,4 @@
-use Rattle.std.proofs.Common.{◌≡◌, ◌≤◌, ◌-◌, ℕ}
+use Rattle.std.proofs.Common.{◌≡◌, ◌≤◌, ◌-◌}
 use Rattle.std.specs.Fn.{CalledAtMut}
 use Rattle.loom.specs.Model.Settings.{most_runs}
 use Rattle.loom.specs.Runner.Check.{limits_of}

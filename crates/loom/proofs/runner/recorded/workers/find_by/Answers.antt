@@ -1,4 +1,4 @@
-use Rattle.std.proofs.Common.{◌≡◌, ◌≤◌, ◌+◌, arith}
+use Rattle.std.proofs.Common.{arith}
 use Rattle.std.specs.Fn.{CalledAtMut}
 use Rattle.loom.proofs.RunnerLemmas.RecordedWorkers.{finding_complete, finding_cut, finding_failed, finding_on, finding_start, finding_stopped}
 use Rattle.loom.proofs.runner.recorded.workers.find_by.Goals as goal

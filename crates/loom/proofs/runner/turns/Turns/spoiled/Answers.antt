@@ -1,6 +1,4 @@
-use Rattle.std.proofs.Common.{◌≡◌, Bool, true, false, List, Option, None, subst}
-use Rattle.loom_engine.specs.declared.rt.execution.Limits.{Limits}
-use Rattle.loom_engine.specs.Path.Route.{Route}
+use Rattle.std.proofs.Common.{◌≡◌, None, subst}
 use Rattle.loom.specs.Runner.Drawn.{LeadsBy}
 use Rattle.loom.specs.Runner.Histories.{Log}
 use Rattle.loom.proofs.RunnerLemmas.Leading.{kept_leads}

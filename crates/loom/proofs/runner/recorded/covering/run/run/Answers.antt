@@ -1,4 +1,4 @@
-use Rattle.std.proofs.Common.{◌≡◌, [], ◌∷◌, List, refl}
+use Rattle.std.proofs.Common.{[], ◌∷◌, List, refl}
 use Rattle.loom.specs.Model.Cover.{Noting, noting}
 use Rattle.loom.specs.Runner.Recorded.{Word, by_function}
 use Rattle.loom.specs.Runner.Recording.{all_told}

@@ -1,4 +1,4 @@
-use Rattle.std.proofs.Common.{◌≡◌, ap, ◌∙◌, List, [], ◌++◌, ◌∷◌, length}
+use Rattle.std.proofs.Common.{ap, ◌∙◌, List, [], ◌++◌, ◌∷◌, length}
 use Rattle.std.specs.Prelude.{None, Option, ℕ}
 use Rattle.loom.proofs.runner.recorded.recording.Recording.new.Goals as goal
 

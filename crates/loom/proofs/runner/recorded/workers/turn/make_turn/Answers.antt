@@ -1,4 +1,4 @@
-use Rattle.std.proofs.Common.{◌≡◌, max, arith}
+use Rattle.std.proofs.Common.{max, arith}
 use Rattle.std.specs.Prelude.{Ok}
 use Rattle.loom.proofs.RunnerLemmas.RecordedWorkers.{turn_known}
 use Rattle.loom.proofs.RunnerLemmas.Turns.{fewer_fit, turn_within}

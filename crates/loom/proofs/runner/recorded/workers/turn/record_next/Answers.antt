@@ -1,4 +1,4 @@
-use Rattle.std.proofs.Common.{◌≡◌, ◌∙◌}
+use Rattle.std.proofs.Common.{◌∙◌}
 use Rattle.std.specs.Fn.{CalledAtMut}
 use Rattle.loom.specs.Runner.Check.{limits_of}
 use Rattle.loom.proofs.RunnerLemmas.RecordedWorkers.{part_begins, records_by}

@@ -1,4 +1,4 @@
-use Rattle.std.proofs.Common.{◌≡◌, max, arith, rules}
+use Rattle.std.proofs.Common.{max, arith, rules}
 use Rattle.loom.proofs.RunnerLemmas.RecordedWorkers.{played_each}
 use Rattle.loom.proofs.RunnerLemmas.Workers.{at_most_each, if_ok_both}
 use Rattle.loom.proofs.runner.recorded.workers.turn.work_on_each.Goals as goal
