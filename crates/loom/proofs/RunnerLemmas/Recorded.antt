@@ -3,9 +3,9 @@ use Rattle.std.proofs.Common.{◌≡◌, ◌+◌, ℕ, zero, suc, List, [], ◌�
 use Rattle.std.specs.Prelude.{◌⊎◌, ⊤, Option, Some, None, Result, Ok, Err, IfSome, MatchOption, option_map, slice_get, slice_set}
 use Rattle.std.proofs.Common.{inl, inr, ◌<◌, get_or}
 use Rattle.std.proofs.lemmas.Option.{slice_get-get_or}
-use Rattle.loom_objects.specs.Operation.Plain.{plain_request, plain_thread, started_request, started_thread}
+use Rattle.loom_objects.specs.Operation.Plain.{map_thread, plain_request, plain_thread, started_request, started_thread}
 use Rattle.loom_objects.specs.declared.operation.Request.{Request}
-use Rattle.loom_objects.specs.declared.operation.Request.TheVariants.{Atomic, Fence, Cell, Arc, Track, Mutex, RwLock, Condvar, Notify, Channel, Waker, AtomicWaker, Local, Lazy, Explore, Thread, Fail, Unreachable}
+use Rattle.loom_objects.specs.declared.operation.Request.TheVariants.{Thread}
 use Rattle.loom_objects.specs.declared.operation.ThreadOp.{ThreadOp}
 use Rattle.loom_objects.specs.declared.operation.ThreadOp.TheVariants.{Spawn, Join, Current, Park, Unpark, Yield, Finish, Exit, End}
 use Rattle.loom_objects.specs.declared.failure.Failure.{Failure}
@@ -17,12 +17,12 @@ use Rattle.loom_engine.specs.Runs.Body.{with_child}
 use Rattle.loom.specs.declared.runner.history.event.Event.{Event}
 use Rattle.loom.specs.declared.runner.recorded.adding.Answered.TheVariants.{So}
 use Rattle.loom.specs.declared.runner.recorded.recording.Answer.{Answer}
-use Rattle.loom.specs.Runner.Recorded.{Does, Function, GoesOn, Word, begun_by, spawned, starting, starting_thread, tells}
+use Rattle.loom.specs.Runner.Recorded.{Does, Function, GoesOn, Word, begun_by, spawned, starting, tells}
 use Rattle.loom.specs.Runner.Recording.{Answers, AreAt, HandsOver, HasAnswered, HasChild, IsAsked, IsAt, IsFound, IsLonger, IsTrueAnswer, IsTrueOf, told_next}
 
 -- ---- an operation, and what it starts
 
-plain_starting_thread : {D S : Type 0} (child : S) (op : ThreadOp D ⊤) → plain_thread (starting_thread child op) ≡ op
+plain_starting_thread : {D S : Type 0} (child : S) (op : ThreadOp D ⊤) → plain_thread (map_thread (λ none. child) op) ≡ op
 plain_starting_thread child (Spawn none name) = refl
 plain_starting_thread child (Join thread notifier) = refl
 plain_starting_thread child Current = refl
@@ -34,26 +34,10 @@ plain_starting_thread child Exit = refl
 plain_starting_thread child End = refl
 
 pub plain_starting : {D S : Type 0} (child : S) (op : Request D ⊤) → plain_request (starting child op) ≡ op
-plain_starting child (Atomic op) = refl
-plain_starting child (Fence order) = refl
-plain_starting child (Cell op) = refl
-plain_starting child (Arc op) = refl
-plain_starting child (Track op) = refl
-plain_starting child (Mutex op) = refl
-plain_starting child (RwLock op) = refl
-plain_starting child (Condvar op) = refl
-plain_starting child (Notify op) = refl
-plain_starting child (Channel op) = refl
-plain_starting child (Waker op) = refl
-plain_starting child (AtomicWaker op) = refl
-plain_starting child (Local op) = refl
-plain_starting child (Lazy op) = refl
-plain_starting child (Explore op) = refl
 plain_starting child (Thread op) = ap Thread (plain_starting_thread child op)
-plain_starting child Fail = refl
-plain_starting child Unreachable = refl
+plain_starting child _ = refl
 
-started_starting_thread : {D S : Type 0} (child : S) (op : ThreadOp D ⊤) → started_thread (starting_thread child op) ≡ option_map (λ none. child) (started_thread op)
+started_starting_thread : {D S : Type 0} (child : S) (op : ThreadOp D ⊤) → started_thread (map_thread (λ none. child) op) ≡ option_map (λ none. child) (started_thread op)
 started_starting_thread child (Spawn none name) = refl
 started_starting_thread child (Join thread notifier) = refl
 started_starting_thread child Current = refl
@@ -65,24 +49,8 @@ started_starting_thread child Exit = refl
 started_starting_thread child End = refl
 
 pub started_starting : {D S : Type 0} (child : S) (op : Request D ⊤) → started_request (starting child op) ≡ option_map (λ none. child) (started_request op)
-started_starting child (Atomic op) = refl
-started_starting child (Fence order) = refl
-started_starting child (Cell op) = refl
-started_starting child (Arc op) = refl
-started_starting child (Track op) = refl
-started_starting child (Mutex op) = refl
-started_starting child (RwLock op) = refl
-started_starting child (Condvar op) = refl
-started_starting child (Notify op) = refl
-started_starting child (Channel op) = refl
-started_starting child (Waker op) = refl
-started_starting child (AtomicWaker op) = refl
-started_starting child (Local op) = refl
-started_starting child (Lazy op) = refl
-started_starting child (Explore op) = refl
 started_starting child (Thread op) = started_starting_thread child op
-started_starting child Fail = refl
-started_starting child Unreachable = refl
+started_starting child _ = refl
 
 -- ---- lists
 

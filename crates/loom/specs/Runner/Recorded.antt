@@ -5,14 +5,11 @@
 use Rattle.std.specs.Prelude.{ℕ, ◌≡◌, ⊤, Bool, List, [], ◌∷◌, All, Option, Some, None, option_map, IfSome, Result, Ok, Err, slice_get, slice_set}
 use Rattle.std.specs.declared.time.Duration.{Duration}
 use Rattle.loom_objects.specs.Operation.Labelled.{Op}
-use Rattle.loom_objects.specs.Operation.Plain.{started_request}
+use Rattle.loom_objects.specs.Operation.Plain.{map_started, started_request}
 use Rattle.loom_objects.specs.Tree.Tree.{Tree}
 use Rattle.loom_objects.specs.declared.choice.Choice.{Choice}
 use Rattle.loom_objects.specs.declared.failure.Failure.{Failure}
 use Rattle.loom_objects.specs.declared.operation.Request.{Request}
-use Rattle.loom_objects.specs.declared.operation.Request.TheVariants.{Atomic, Fence, Cell, Arc, Track, Mutex, RwLock, Condvar, Notify, Channel, Waker, AtomicWaker, Local, Lazy, Explore, Thread, Fail, Unreachable}
-use Rattle.loom_objects.specs.declared.operation.ThreadOp.{ThreadOp}
-use Rattle.loom_objects.specs.declared.operation.ThreadOp.TheVariants.{Spawn, Join, Current, Park, Unpark, Yield, Finish, Exit, End}
 use Rattle.loom_objects.specs.declared.operation.Reply.{Reply}
 use Rattle.loom_objects.specs.declared.operation.Reply.TheVariants as reply
 use Rattle.loom_objects.specs.declared.operation.Turn.{Turn}
@@ -54,36 +51,8 @@ abbrev pub Function : Type 0 → Type 0
 Function D = Word D → Request D ⊤
 
 -- the operation, of which this is what a spawn starts
-abbrev pub starting_thread : {D S : Type 0} → S → ThreadOp D ⊤ → ThreadOp D S
-starting_thread child (Spawn none name) = Spawn child name
-starting_thread child (Join thread notifier) = Join thread notifier
-starting_thread child Current = Current
-starting_thread child Park = Park
-starting_thread child (Unpark thread) = Unpark thread
-starting_thread child Yield = Yield
-starting_thread child (Finish value) = Finish value
-starting_thread child Exit = Exit
-starting_thread child End = End
-
 abbrev pub starting : {D S : Type 0} → S → Request D ⊤ → Request D S
-starting child (Atomic op) = Atomic op
-starting child (Fence order) = Fence order
-starting child (Cell op) = Cell op
-starting child (Arc op) = Arc op
-starting child (Track op) = Track op
-starting child (Mutex op) = Mutex op
-starting child (RwLock op) = RwLock op
-starting child (Condvar op) = Condvar op
-starting child (Notify op) = Notify op
-starting child (Channel op) = Channel op
-starting child (Waker op) = Waker op
-starting child (AtomicWaker op) = AtomicWaker op
-starting child (Local op) = Local op
-starting child (Lazy op) = Lazy op
-starting child (Explore op) = Explore op
-starting child (Thread op) = Thread (starting_thread child op)
-starting child Fail = Fail
-starting child Unreachable = Unreachable
+starting child op = map_started (λ none. child) op
 
 module _ {D : Type 0} where
   -- a thread that was told this hands over this operation, which may start a thread

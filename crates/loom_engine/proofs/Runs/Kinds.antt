@@ -1,50 +1,62 @@
--- What each kind of operation keeps, a line for each.
-use Rattle.std.proofs.Common.{◌≡◌, ℕ, Bool, false, List, Some, None, refl}
-use Rattle.std.specs.Prelude.{Ok, ⊤}
+-- What each kind of operation keeps, a line for each, and that equal states answer it alike.
+use Rattle.std.proofs.Common.{◌≡◌, ℕ, Bool, true, false, List, Some, None, refl, inl}
+use Rattle.std.specs.Prelude.{Ok, Result, ⊤}
 use Rattle.loom_views.specs.Atomic.Slots.{slot_set}
 use Rattle.loom_views.specs.Laws.Moves.{Moves}
 use Rattle.loom_views.specs.Views.{Points, readable_slots_of}
 use Rattle.loom_views.specs.declared.rt.atomic.reader.Reader.{Reader}
+use Rattle.loom_views.specs.declared.rt.failure.FailureKind.{FailureKind}
+use Rattle.loom_views.specs.declared.rt.failure.FailureKind.TheVariants.{TooManySteps}
 use Rattle.loom_objects.specs.declared.operation.AtomicOp.{AtomicOp}
 use Rattle.loom_objects.specs.declared.operation.ChannelOp.{ChannelOp}
 use Rattle.loom_objects.specs.declared.operation.LazyOp.{LazyOp}
 use Rattle.loom_objects.specs.declared.operation.Message.{Message}
 use Rattle.loom_objects.specs.declared.operation.Request.{Request}
 use Rattle.loom_objects.specs.declared.operation.Request.TheVariants as op
+use Rattle.loom_objects.specs.declared.rt.run.Passed.{Passed}
 use Rattle.loom_objects.specs.declared.rt.thread.Receiving.{Receiving}
 use Rattle.loom_objects.specs.declared.rt.thread.Task.{Task}
 use Rattle.loom_objects.specs.declared.rt.thread.Task.TheVariants as task
-use Rattle.loom_objects.specs.Rules.Condvar.{falls_asleep}
-use Rattle.loom_objects.specs.Rules.Locals.{lazy_begins}
-use Rattle.loom_objects.specs.Rules.Mpsc.{channel_begins, drains, receives, sends}
-use Rattle.loom_objects.specs.Rules.Moves.{pends}
-use Rattle.loom_objects.specs.Rules.Replied.{gone}
-use Rattle.loom_objects.specs.Rules.Tables.{needs_memory, op_begins, takes_effect}
-use Rattle.loom_objects.specs.Rules.Thread.{finish}
-use Rattle.loom_objects.specs.World.{World}
-use Rattle.loom_engine.specs.Runs.Histories.{returned_by}
 use Rattle.loom_objects.specs.Exploring.{is_switch}
+use Rattle.loom_objects.specs.Rules.Arc.{counts, tries_unwrap}
+use Rattle.loom_objects.specs.Rules.Condvar.{falls_asleep, relocks, wakes}
+use Rattle.loom_objects.specs.Rules.Locals.{lazy_begins}
+use Rattle.loom_objects.specs.Rules.Moves.{pends}
+use Rattle.loom_objects.specs.Rules.Mpsc.{channel_begins, drains, receives, sends}
+use Rattle.loom_objects.specs.Rules.Mutex.{lock, try_lock}
+use Rattle.loom_objects.specs.Rules.Notify.{awaits, notifies, wakes_early}
+use Rattle.loom_objects.specs.Rules.Replied.{gone}
+use Rattle.loom_objects.specs.Rules.Rule.{◌>>=◌}
+use Rattle.loom_objects.specs.Rules.RwLock.{claims}
+use Rattle.loom_objects.specs.Rules.Tables.{needs_memory, op_begins, takes_effect}
+use Rattle.loom_objects.specs.Rules.Thread.{child_finish, finish, join}
+use Rattle.loom_objects.specs.Rules.Waker.{clones_waker, drops_waker, registers, takes_waker, wakes_by}
+use Rattle.loom_objects.specs.World.{World}
+use Rattle.loom_engine.specs.Covering.Points.{TellsMoves}
+use Rattle.loom_engine.specs.Runs.Histories.{returned_by}
 use Rattle.loom_engine.specs.Runs.Stores.{access_in_task}
+use Rattle.loom_engine.proofs.Covering.Kinds.{arc_begins_so, atomic_waker_begins_so, awaits_so, channel_begins_so, child_finish_so, claims_so, clones_waker_so, condvar_begins_so, counts_so, drains_so, drops_waker_so, falls_asleep_so, join_so, lazy_begins_so, local_begins_so, lock_so, mutex_begins_so, notifies_so, notify_begins_so, receives_so, registers_so, relocks_so, rwlock_begins_so, sends_so, takes_waker_so, thread_begins_so, track_begins_so, tries_unwrap_so, try_lock_so, waker_begins_so, wakes_by_so, wakes_early_so, wakes_so}
+use Rattle.loom_engine.proofs.Covering.Rules.{Follows, SeenSame, YieldsTell, accesses_so, answer_then, atomic_begins_so, cell_begins_so, fence_so, replied_so as answered_so, with_other}
 use Rattle.loom_engine.proofs.Runs.Answering.{Answers, TellsActive, accesses_tells, by_passing, by_quiet, clones_waker_goes, drains_goes, drops_waker_goes, falls_asleep_passes, registers_goes, takes_waker_goes, told, tries_unwrap_passes, wakes_by_goes}
+use Rattle.loom_engine.proofs.Runs.Growing.{Stays, arc_stays, atomic_stays, cell_stays, channel_stays, condvar_stays, fence_stays, lazy_stays, local_stays, mutex_stays, notifier_stays, place_stays, rwlock_stays, stayed, thread_stays, track_stays, waker_stays}
+use Rattle.loom_engine.proofs.Runs.Kept.{KeptByMoves}
 use Rattle.loom_engine.proofs.Runs.Kinds.Atomics.{accesses_resuming, atomic_begins_keeping, fence_keeping}
 use Rattle.loom_engine.proofs.Runs.Kinds.Cells.{cell_begins_keeping}
 use Rattle.loom_engine.proofs.Runs.Kinds.Channels.{channel_begins_keeping, drains_keeping, receives_keeping, sends_keeping}
 use Rattle.loom_engine.proofs.Runs.Kinds.Condvars.{condvar_begins_entering, condvar_unswitched, falls_asleep_keeping, relocks_keeping, wakes_keeping}
 use Rattle.loom_engine.proofs.Runs.Kinds.Counts.{arc_begins_keeping, counts_keeping, tries_unwrap_keeping}
-use Rattle.loom_engine.proofs.Runs.Growing.{Stays, arc_stays, atomic_stays, cell_stays, channel_stays, condvar_stays, fence_stays, lazy_stays, local_stays, mutex_stays, notifier_stays, place_stays, rwlock_stays, stayed, thread_stays, track_stays, waker_stays}
-use Rattle.loom_engine.proofs.Runs.Kept.{KeptByMoves}
-use Rattle.loom_engine.proofs.Runs.Moving.{Within, accesses_moves, arc_moves, atomic_moves, awaits_moves, cell_moves, child_finish_moves, claims_moves, clones_waker_moves, condvar_moves, counts_moves, drops_waker_moves, falls_asleep_moves, fence_moves, join_moves, local_moves, lock_moves, mutex_moves, notifier_moves, notifies_moves, passed_so, place_moves, registers_moves, relocks_moves, replied_so, rwlock_moves, takes_waker_moves, thread_moves, track_moves, tries_unwrap_moves, try_lock_moves, waker_moves, wakes_by_moves, wakes_early_moves, wakes_moves}
 use Rattle.loom_engine.proofs.Runs.Kinds.Mutexes.{lock_telling, mutex_begins_entering, mutex_unswitched, try_lock_telling}
 use Rattle.loom_engine.proofs.Runs.Kinds.Notifiers.{awaits_keeping, notifier_begins_keeping, notifies_keeping, wakes_early_keeping}
-use Rattle.loom_engine.proofs.Runs.Pointing.{Does, In, MayBegin, MayBy, MayTake, Reading, ResumedIf, accesses_points, arc_points, atomic_points, awaits_points, by_passed, by_reply, cell_points, channel_points, child_finish_points, claims_points, clones_waker_points, condvar_points, counts_points, drains_points, drops_waker_points, falls_asleep_points, fence_points, join_points, lazy_points, local_points, lock_points, mutex_points, notifier_points, notifies_points, place_points, receives_points, registers_points, rwlock_points, sends_points, takes_waker_points, thread_points, track_points, tries_unwrap_points, try_lock_points, waker_points, wakes_by_points, wakes_early_points, wakes_points}
-use Rattle.loom_engine.proofs.Runs.Replies.{Unswitched, arc_quiet, atomic_quiet, awaits_quiet, cell_quiet, channel_quiet, child_finish_quiet, counts_quiet, enters, fence_quiet, gone_resuming, join_quiet, lazy_quiet, local_quiet, notifier_quiet, notifies_quiet, place_quiet, quiet_unswitched, quietly_resuming, receives_quiet, replied_resuming, rwlock_quiet, sends_quiet, tells_turn, thread_quiet, track_quiet, tries_unwrap_quiet, waker_quiet, wakes_early_quiet, wakes_quiet}
-use Rattle.loom_engine.proofs.Runs.Ruling.{Entering, Fairly, Freely, PassingBut, Resuming, freely, misuse, then_fairly}
 use Rattle.loom_engine.proofs.Runs.Kinds.RwLocks.{claims_telling, rwlock_begins_entering}
-use Rattle.loom_engine.proofs.Runs.States.{freed_by}
 use Rattle.loom_engine.proofs.Runs.Kinds.Threads.{child_finish_keeping, join_keeping, thread_begins_keeping}
 use Rattle.loom_engine.proofs.Runs.Kinds.Tracks.{track_begins_keeping}
 use Rattle.loom_engine.proofs.Runs.Kinds.Values.{lazy_begins_keeping, local_begins_keeping}
 use Rattle.loom_engine.proofs.Runs.Kinds.Wakers.{clones_waker_keeping, drops_waker_keeping, place_begins_keeping, registers_keeping, takes_waker_keeping, waker_begins_keeping, wakes_by_keeping}
+use Rattle.loom_engine.proofs.Runs.Moving.{Within, accesses_moves, arc_moves, atomic_moves, awaits_moves, cell_moves, child_finish_moves, claims_moves, clones_waker_moves, condvar_moves, counts_moves, drops_waker_moves, falls_asleep_moves, fence_moves, join_moves, local_moves, lock_moves, mutex_moves, notifier_moves, notifies_moves, passed_so, place_moves, registers_moves, relocks_moves, replied_so, rwlock_moves, takes_waker_moves, thread_moves, track_moves, tries_unwrap_moves, try_lock_moves, waker_moves, wakes_by_moves, wakes_early_moves, wakes_moves}
+use Rattle.loom_engine.proofs.Runs.Pointing.{Does, In, MayBegin, MayBy, MayTake, Reading, ResumedIf, accesses_points, arc_points, atomic_points, awaits_points, by_passed, by_reply, cell_points, channel_points, child_finish_points, claims_points, clones_waker_points, condvar_points, counts_points, drains_points, drops_waker_points, falls_asleep_points, fence_points, join_points, lazy_points, local_points, lock_points, mutex_points, notifier_points, notifies_points, place_points, receives_points, registers_points, rwlock_points, sends_points, takes_waker_points, thread_points, track_points, tries_unwrap_points, try_lock_points, waker_points, wakes_by_points, wakes_early_points, wakes_points}
+use Rattle.loom_engine.proofs.Runs.Replies.{Unswitched, arc_quiet, atomic_quiet, awaits_quiet, cell_quiet, channel_quiet, child_finish_quiet, counts_quiet, enters, fence_quiet, gone_resuming, join_quiet, lazy_quiet, local_quiet, notifier_quiet, notifies_quiet, place_quiet, quiet_unswitched, quietly_resuming, receives_quiet, replied_resuming, rwlock_quiet, sends_quiet, tells_turn, thread_quiet, track_quiet, tries_unwrap_quiet, waker_quiet, wakes_early_quiet, wakes_quiet}
+use Rattle.loom_engine.proofs.Runs.Ruling.{Entering, Fairly, Freely, PassingBut, Resuming, freely, misuse, then_fairly}
+use Rattle.loom_engine.proofs.Runs.States.{freed_by}
 pub mod Atomics
 pub mod Cells
 pub mod Channels
@@ -290,3 +302,62 @@ module _ (D : Type 0) (P : Points → Type 0) (May : Does → Type 0) (step : (p
     effect_points (task.DropWaker c after) w may s = by_passed D P May step Offered may_read _ (drops_waker_points D P May step c after w s)
     effect_points (task.Register p c) w may s = by_passed D P May step Offered may_read _ (registers_points D P May step p c w s)
     effect_points (task.TakeWaker by p) w may s = by_passed D P May step Offered may_read _ (takes_waker_points D P May step by p w s)
+
+-- ---- in equal states it answers alike
+
+module _ {D V : Type 0} (limits : FailureKind → Bool) (steps : limits TooManySteps ≡ true) (seen : Points → V) (see : List ℕ → List ℕ) (more : YieldsTell see) (tells : TellsMoves limits seen) where
+  abbrev So : {A : Type 0} → Result (A × World D) FailureKind → Result (A × World D) FailureKind → Type 0
+  So r s = Follows limits seen see r s
+
+  abbrev Other : Points → ℕ → List ℕ → World D → World D
+  Other q k y w = with_other limits seen see q k y w
+
+  pub op_begins_so : (todo : Request D ⊤) (w : World D) (q : Points) (k : ℕ) (y : List ℕ) → SeenSame limits seen see w q y → So (op_begins todo w) (op_begins todo (Other q k y w))
+  op_begins_so (op.Atomic todo) w q k y e = atomic_begins_so limits seen see tells todo w q k y e
+  op_begins_so (op.Fence order) w q k y e = fence_so limits seen see tells order w q k y e
+  op_begins_so (op.Cell todo) w q k y e = cell_begins_so limits seen see tells todo w q k y e
+  op_begins_so (op.Arc todo) w q k y e = arc_begins_so limits steps seen see more tells todo w q k y e
+  op_begins_so (op.Track todo) w q k y e = track_begins_so limits steps seen see more tells todo w q k y e
+  op_begins_so (op.Mutex todo) w q k y e = mutex_begins_so limits steps seen see more tells todo w q k y e
+  op_begins_so (op.RwLock todo) w q k y e = rwlock_begins_so limits steps seen see more tells todo w q k y e
+  op_begins_so (op.Condvar todo) w q k y e = condvar_begins_so limits steps seen see more tells todo w q k y e
+  op_begins_so (op.Notify todo) w q k y e = notify_begins_so limits steps seen see more tells todo w q k y e
+  op_begins_so (op.Channel todo) w q k y e = channel_begins_so limits steps seen see more tells todo w q k y e
+  op_begins_so (op.Waker todo) w q k y e = waker_begins_so limits steps seen see more tells todo w q k y e
+  op_begins_so (op.AtomicWaker todo) w q k y e = atomic_waker_begins_so limits steps seen see more tells todo w q k y e
+  op_begins_so (op.Local todo) w q k y e = local_begins_so limits steps seen see more tells todo w q k y e
+  op_begins_so (op.Lazy todo) w q k y e = lazy_begins_so limits steps seen see more tells todo w q k y e
+  op_begins_so (op.Explore todo) w q k y e = (refl, (_, _, _, e, refl))
+  op_begins_so (op.Thread todo) w q k y e = thread_begins_so limits steps seen see more tells todo w q k y e
+  op_begins_so op.Fail w q k y e = inl refl
+  op_begins_so op.Unreachable w q k y e = inl refl
+
+  gone_so : (r s : Result (Passed D × World D) FailureKind) → So r s → So (r >>= gone) (s >>= gone)
+  gone_so r s h = answer_then limits seen see r s gone gone h (λ passed u p j z f. (refl, (_, _, _, f, refl)))
+
+  pub takes_effect_so : (todo : Task D) (w : World D) (q : Points) (k : ℕ) (y : List ℕ) → SeenSame limits seen see w q y → So (takes_effect todo w) (takes_effect todo (Other q k y w))
+  takes_effect_so task.Start w q k y e = (refl, (_, _, _, e, refl))
+  takes_effect_so task.Body w q k y e = inl refl
+  takes_effect_so task.Continue w q k y e = (refl, (_, _, _, e, refl))
+  takes_effect_so (task.Access access) w q k y e = accesses_so limits seen see tells access w q k y e
+  takes_effect_so (task.Lock how n) w q k y e = answered_so limits seen see tells (lock how n w) (lock how n (Other q k y w)) (lock_so limits steps seen see more tells how n w q k y e)
+  takes_effect_so (task.TryLock n) w q k y e = answered_so limits seen see tells (try_lock n w) (try_lock n (Other q k y w)) (try_lock_so limits steps seen see more tells n w q k y e)
+  takes_effect_so (task.Claim how n) w q k y e = answered_so limits seen see tells (claims how n w) (claims how n (Other q k y w)) (claims_so limits steps seen see more tells how n w q k y e)
+  takes_effect_so (task.Wait how n m value) w q k y e = gone_so (falls_asleep how n m value w) (falls_asleep how n m value (Other q k y w)) (falls_asleep_so limits steps seen see more tells how n m value w q k y e)
+  takes_effect_so (task.Relock how m) w q k y e = gone_so (relocks how m w) (relocks how m (Other q k y w)) (relocks_so limits steps seen see more tells how m w q k y e)
+  takes_effect_so (task.Wake which n) w q k y e = answered_so limits seen see tells (wakes which n w) (wakes which n (Other q k y w)) (wakes_so limits steps seen see more tells which n w q k y e)
+  takes_effect_so (task.Notify n) w q k y e = answered_so limits seen see tells (notifies n w) (notifies n (Other q k y w)) (notifies_so limits steps seen see more tells n w q k y e)
+  takes_effect_so (task.Await n) w q k y e = answered_so limits seen see tells (awaits n w) (awaits n (Other q k y w)) (awaits_so limits steps seen see more tells n w q k y e)
+  takes_effect_so (task.Rouse n) w q k y e = answered_so limits seen see tells (wakes_early n w) (wakes_early n (Other q k y w)) (wakes_early_so limits steps seen see more tells n w q k y e)
+  takes_effect_so (task.Count todo n) w q k y e = answered_so limits seen see tells (counts todo n w) (counts todo n (Other q k y w)) (counts_so limits steps seen see more tells todo n w q k y e)
+  takes_effect_so (task.TryUnwrap n) w q k y e = gone_so (tries_unwrap n w) (tries_unwrap n (Other q k y w)) (tries_unwrap_so limits steps seen see more tells n w q k y e)
+  takes_effect_so (task.Join t n) w q k y e = answered_so limits seen see tells (join t n w) (join t n (Other q k y w)) (join_so limits steps seen see more tells t n w q k y e)
+  takes_effect_so (task.Finish n value) w q k y e = answered_so limits seen see tells (child_finish n value w) (child_finish n value (Other q k y w)) (child_finish_so limits steps seen see more tells n value w q k y e)
+  takes_effect_so (task.Send n sent) w q k y e = answered_so limits seen see tells (sends n sent w) (sends n sent (Other q k y w)) (sends_so limits steps seen see more tells n sent w q k y e)
+  takes_effect_so (task.Receive by n) w q k y e = answered_so limits seen see tells (receives by n w) (receives by n (Other q k y w)) (receives_so limits steps seen see more tells by n w q k y e)
+  takes_effect_so (task.Drain n taken) w q k y e = gone_so (drains n taken w) (drains n taken (Other q k y w)) (drains_so limits steps seen see more tells n taken w q k y e)
+  takes_effect_so (task.WakeBy n c later) w q k y e = gone_so (wakes_by n c later w) (wakes_by n c later (Other q k y w)) (wakes_by_so limits steps seen see more tells n c later w q k y e)
+  takes_effect_so (task.CloneWaker c place) w q k y e = gone_so (clones_waker c place w) (clones_waker c place (Other q k y w)) (clones_waker_so limits steps seen see more tells c place w q k y e)
+  takes_effect_so (task.DropWaker c later) w q k y e = gone_so (drops_waker c later w) (drops_waker c later (Other q k y w)) (drops_waker_so limits steps seen see more tells c later w q k y e)
+  takes_effect_so (task.Register p c) w q k y e = gone_so (registers p c w) (registers p c (Other q k y w)) (registers_so limits steps seen see more tells p c w q k y e)
+  takes_effect_so (task.TakeWaker by p) w q k y e = gone_so (takes_waker by p w) (takes_waker by p (Other q k y w)) (takes_waker_so limits steps seen see more tells by p w q k y e)

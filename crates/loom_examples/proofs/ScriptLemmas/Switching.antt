@@ -89,8 +89,8 @@ made_stays s (op.Local made) h = quiet_stays s _ (record { no = refl; none = ref
 made_stays s (op.Lazy made) h = quiet_stays s _ (record { no = refl; none = refl })
 made_stays s (op.Explore made) h = absurd (cc h)
 made_stays s (op.Thread made) h = thread_stays s made
-made_stays s op.Fail h = quiet_stays s _ (record { no = refl; none = refl })
 made_stays s op.Unreachable h = quiet_stays s _ (record { no = refl; none = refl })
+made_stays s _ h = quiet_stays s _ (record { no = refl; none = refl })
 
 step_stays : (s : Running) (step : Option Written) → ((w : Written) → step ≡ Some w → switches w ≡ false) → Stays s (step_request s step)
 step_stays s None h = quiet_stays s _ (record { no = refl; none = refl })

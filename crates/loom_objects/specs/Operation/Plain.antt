@@ -6,38 +6,45 @@ use Rattle.loom_objects.specs.declared.operation.Request.TheVariants.{Atomic, Fe
 use Rattle.loom_objects.specs.declared.operation.ThreadOp.{ThreadOp}
 use Rattle.loom_objects.specs.declared.operation.ThreadOp.TheVariants.{Spawn, Join, Current, Park, Unpark, Yield, Finish, Exit, End}
 
+-- the operation, with what it starts put through the function
+abbrev pub map_thread : {D S T : Type 0} → (S → T) → ThreadOp D S → ThreadOp D T
+map_thread f (Spawn body name) = Spawn (f body) name
+map_thread f (Join thread notifier) = Join thread notifier
+map_thread f Current = Current
+map_thread f Park = Park
+map_thread f (Unpark thread) = Unpark thread
+map_thread f Yield = Yield
+map_thread f (Finish value) = Finish value
+map_thread f Exit = Exit
+map_thread f End = End
+
+abbrev pub map_started : {D S T : Type 0} → (S → T) → Request D S → Request D T
+map_started f (Atomic op) = Atomic op
+map_started f (Fence order) = Fence order
+map_started f (Cell op) = Cell op
+map_started f (Arc op) = Arc op
+map_started f (Track op) = Track op
+map_started f (Mutex op) = Mutex op
+map_started f (RwLock op) = RwLock op
+map_started f (Condvar op) = Condvar op
+map_started f (Notify op) = Notify op
+map_started f (Channel op) = Channel op
+map_started f (Waker op) = Waker op
+map_started f (AtomicWaker op) = AtomicWaker op
+map_started f (Local op) = Local op
+map_started f (Lazy op) = Lazy op
+map_started f (Explore op) = Explore op
+map_started f (Thread op) = Thread (map_thread f op)
+map_started f Fail = Fail
+map_started f Unreachable = Unreachable
+
 module _ {D S : Type 0} where
   abbrev pub plain_thread : ThreadOp D S → ThreadOp D ⊤
-  plain_thread (Spawn body name) = Spawn tt name
-  plain_thread (Join thread notifier) = Join thread notifier
-  plain_thread Current = Current
-  plain_thread Park = Park
-  plain_thread (Unpark thread) = Unpark thread
-  plain_thread Yield = Yield
-  plain_thread (Finish value) = Finish value
-  plain_thread Exit = Exit
-  plain_thread End = End
+  plain_thread op = map_thread (λ body. tt) op
 
   -- what is asked for, without what it starts
   abbrev pub plain_request : Request D S → Request D ⊤
-  plain_request (Atomic op) = Atomic op
-  plain_request (Fence order) = Fence order
-  plain_request (Cell op) = Cell op
-  plain_request (Arc op) = Arc op
-  plain_request (Track op) = Track op
-  plain_request (Mutex op) = Mutex op
-  plain_request (RwLock op) = RwLock op
-  plain_request (Condvar op) = Condvar op
-  plain_request (Notify op) = Notify op
-  plain_request (Channel op) = Channel op
-  plain_request (Waker op) = Waker op
-  plain_request (AtomicWaker op) = AtomicWaker op
-  plain_request (Local op) = Local op
-  plain_request (Lazy op) = Lazy op
-  plain_request (Explore op) = Explore op
-  plain_request (Thread op) = Thread (plain_thread op)
-  plain_request Fail = Fail
-  plain_request Unreachable = Unreachable
+  plain_request op = map_started (λ body. tt) op
 
   abbrev pub started_thread : ThreadOp D S → Option S
   started_thread (Spawn body name) = Some body
