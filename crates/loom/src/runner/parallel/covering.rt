@@ -83,8 +83,7 @@ where
     ensures refused { IfErr (tested builder.now) (λ e. (result ≡ Err e) × (visitors.new ≡ visitors.old) × (parts.new ≡ parts.old)) }
 {
     builder.test()?;
-    let (mut runs, mut met) = (0u64, 0u64);
-    let mut told = 0;
+    let (mut runs, mut met, mut told) = (0u64, 0u64, 0);
     'turns: for _ in rt.forever() {
         if parts.is_over() {
             log_runs(log, "completed in ", runs + met, " iterations");
@@ -109,9 +108,9 @@ where
         met += turn.met;
         if let Some(lost) = turn.lost {
             let Lost {
-                part: _,
                 failure,
                 choices,
+                ..
             } = lost;
             return Ok(Covered::Failed {
                 runs,

@@ -179,59 +179,44 @@ impl<B: Body<Data = u64> + Same> Covering<u64, B> {
 
     // Adds what a stage found. Answers what the check has found with that, or which limit stopped the stage.
     fn add(&mut self, found: Covered) -> Result<Covered, Limit> {
+        self.count(&found);
+        let (runs, met) = (self.runs, self.met);
         match found {
-            Covered::Complete { runs, met, states } => {
-                self.count(runs, met);
-                Ok(Covered::Complete {
-                    runs: self.runs,
-                    met: self.met,
-                    states,
-                })
-            }
+            Covered::Complete { states, .. } => Ok(Covered::Complete { runs, met, states }),
             Covered::Livelock {
+                states,
+                choices,
+                ..
+            } => Ok(Covered::Livelock {
                 runs,
                 met,
                 states,
                 choices,
-            } => {
-                self.count(runs, met);
-                Ok(Covered::Livelock {
-                    runs: self.runs,
-                    met: self.met,
-                    states,
-                    choices,
-                })
-            }
+            }),
             Covered::Failed {
+                states,
+                failure,
+                choices,
+                ..
+            } => Ok(Covered::Failed {
                 runs,
                 met,
                 states,
                 failure,
                 choices,
-            } => {
-                self.count(runs, met);
-                Ok(Covered::Failed {
-                    runs: self.runs,
-                    met: self.met,
-                    states,
-                    failure,
-                    choices,
-                })
-            }
-            Covered::Stopped {
-                runs,
-                met,
-                states: _,
-                limit,
-            } => {
-                self.count(runs, met);
-                Err(limit)
-            }
+            }),
+            Covered::Stopped { limit, .. } => Err(limit),
         }
     }
 
-    // So many more runs ended, and were given up.
-    fn count(&mut self, runs: u64, met: u64) {
+    // The runs that a stage made are counted, those that ended and those that were given up.
+    fn count(&mut self, found: &Covered) {
+        let (runs, met) = match found {
+            Covered::Complete { runs, met, .. }
+            | Covered::Livelock { runs, met, .. }
+            | Covered::Failed { runs, met, .. }
+            | Covered::Stopped { runs, met, .. } => (*runs, *met),
+        };
         self.runs = self.runs.saturating_add(runs);
         self.met = self.met.saturating_add(met);
     }
