@@ -271,6 +271,17 @@ pub fn report(
     let mut report = format!(in alloc; "{file}:{place}: {problem}\n")?;
     let before = place.column.saturating_sub(1);
     let first = place.start.saturating_sub(before);
+    let width = push_line(text, first, &mut report)?;
+    report.push_str(" ".repeat(alloc, before)?.as_str())?;
+    let marked = place.end.saturating_sub(place.start);
+    let marks = marked.min(width.saturating_sub(before)).max(1);
+    report.push_str("^".repeat(alloc, marks)?.as_str())?;
+    report.push('\n')?;
+    Ok(report)
+}
+
+// The line whose first byte this is, as it is shown. Answers how wide it is.
+fn push_line(text: &[u8], first: usize, report: &mut String) -> Result<usize, AllocError> {
     let mut width: usize = 0;
     for byte in text
         .iter()
@@ -281,15 +292,7 @@ pub fn report(
         width = width.saturating_add(1);
     }
     report.push('\n')?;
-    for _ in 0..before {
-        report.push(' ')?;
-    }
-    let marked = place.end.saturating_sub(place.start);
-    for _ in 0..marked.min(width.saturating_sub(before)).max(1) {
-        report.push('^')?;
-    }
-    report.push('\n')?;
-    Ok(report)
+    Ok(width)
 }
 
 // The byte as a character of the same width.

@@ -95,21 +95,31 @@ fn write_thread(
         locations,
         registers: &thread.registers,
     };
-    for (place, parameter) in thread.parameters.iter().enumerate() {
-        if place > 0 {
-            text.push_str(", ")?;
-        }
-        let kind = locations
-            .get(*parameter)
-            .map_or(Kind::Plain, |location| location.kind);
-        let name = names.location(*parameter);
-        write!(text, "{kind}* {name}")?;
-    }
+    write_parameters(&thread.parameters, names, text)?;
     text.push_str(") {\n")?;
     for statement in &thread.body {
         write_statement(statement, names, 1, text)?;
     }
     text.push_str("}\n")
+}
+
+fn write_parameters(
+    parameters: &[usize],
+    names: Names<'_>,
+    text: &mut String,
+) -> Result<(), AllocError> {
+    for (place, parameter) in parameters.iter().enumerate() {
+        if place > 0 {
+            text.push_str(", ")?;
+        }
+        let kind = names
+            .locations
+            .get(*parameter)
+            .map_or(Kind::Plain, |location| location.kind);
+        let name = names.location(*parameter);
+        write!(text, "{kind}* {name}")?;
+    }
+    Ok(())
 }
 
 impl<'a> Names<'a> {

@@ -11,7 +11,6 @@ use crate::rows::{all_rows, print_report};
 use loom::checkpoint::file::file_store;
 use loom::model::builder::Builder;
 use loom::model::error::CheckError;
-use loom::model::parts::Slice;
 use loom::model::{Limit, Report};
 use loom::runner::{Found, Host, RunnerError, Workers};
 use loom::{CheckpointStore, Clock, HostClock};
@@ -21,9 +20,6 @@ use std::io::{self, Write};
 use std::rt::Clock as HostTime;
 use std::thread::{self, Threads};
 use std::time::Duration;
-
-// Each part is worked on for so long at a time at most.
-const SLICE_MILLIS: u64 = 200;
 
 // The list of parts is saved so often at most.
 const SAVE_MILLIS: u64 = 1000;
@@ -82,17 +78,6 @@ pub(crate) fn workers<R: Threads>(rt: &R, jobs: usize) -> usize {
     }
 }
 
-// So many workers, each with so many milliseconds for a part.
-pub(crate) fn timed_workers(count: usize, millis: u64) -> Workers {
-    Workers {
-        count,
-        slice: Slice {
-            runs: u64::MAX,
-            until: Some(Duration::from_millis(millis)),
-        },
-    }
-}
-
 // The report of what has ended behind these runs. If nothing has, how many runs there are now, and which limit was reached.
 fn ended(found: Found, before: u64) -> Result<Report, (u64, Limit)> {
     match found {
@@ -127,7 +112,7 @@ fn find<R: Host + HostTime + Sync>(
     let mut saved = 0u64;
     for _ in rt.forever() {
         let stage = stage(builder, runs, clock.elapsed());
-        let workers = timed_workers(count, SLICE_MILLIS);
+        let workers = Workers::new(count);
         let found = parted.find(rt, &stage, workers, &mut parts, &mut clock)?;
         let (now, limit) = match ended(found, runs) {
             Ok(report) => return Ok(report),

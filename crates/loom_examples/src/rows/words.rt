@@ -117,11 +117,17 @@ fn list<R: AllocGlobal, O: Write>(rt: &R, out: &mut O) -> io::Result<u8> {
         let name = row.name;
         writeln!(out, "{name}")?;
     }
+    list_closures(out)?;
+    Ok(0)
+}
+
+// A line for each row of closures.
+fn list_closures<O: Write>(out: &mut O) -> io::Result<()> {
     for row in ROWS {
         let name = row.name();
         writeln!(out, "{name}")?;
     }
-    Ok(0)
+    Ok(())
 }
 
 /// Does what is asked of a row, prints what comes of it, and answers the exit status. The log hears of a walk.

@@ -1,6 +1,6 @@
 //! What the program does with a row that several workers cover.
 use crate::rows::cover::{print_covered, tell_covered};
-use crate::rows::jobs::{is_late, stage, timed_workers, workers};
+use crate::rows::jobs::{is_late, stage, workers};
 use crate::rows::options::RowAsked;
 use crate::rows::parted::Parted;
 use crate::rows::refuse_check;
@@ -12,7 +12,8 @@ use loom::model::builder::Builder;
 use loom::model::cover::Covered;
 use loom::model::cover::part_texts::parts_to_text;
 use loom::model::error::CheckError;
-use loom::runner::{Apart, Host, NoVisitor, cover_parallel};
+use loom::model::parts::Slice;
+use loom::runner::{Apart, Host, NoVisitor, Workers, cover_parallel};
 use loom::{Body, CheckpointStore, Clock, HostClock};
 use loom_engine::rt::parts::Parts;
 use loom_engine::rt::states::States;
@@ -20,6 +21,7 @@ use loom_views::same::Same;
 use std::alloc::Global;
 use std::io::{self, Write};
 use std::rt::Clock as HostTime;
+use std::time::Duration;
 
 // Each part is worked on for so long at a time at most: what a worker has noted the others read from the next turn on.
 const SLICE_MILLIS: u64 = 20;
@@ -147,12 +149,16 @@ fn find_in<R: Host + HostTime + Sync, B: Body<Data = u64> + Same + Apart + Send 
     covering: &mut Covering<u64, B>,
     clock: &mut C,
 ) -> Result<Covered, CheckError> {
+    let slice = Slice {
+        runs: u64::MAX,
+        until: Some(Duration::from_millis(SLICE_MILLIS)),
+    };
     cover_parallel(
         rt,
         rt.alloc(),
         stage,
         body,
-        timed_workers(count, SLICE_MILLIS),
+        Workers { count, slice },
         &mut covering.states,
         &mut covering.parts,
         &mut NoVisitor,

@@ -109,6 +109,12 @@ impl Listed {
         for part in done {
             self.parts.give_back(alloc, part)?;
         }
+        self.cut_up(alloc, out)?;
+        self.number_anew(alloc, out)
+    }
+
+    // Cuts the parts that aren't out, until there are as many parts as are wanted.
+    fn cut_up(&mut self, alloc: Global, out: &[Known]) -> Result<(), AllocError> {
         let mut place = 0;
         for _ in 0..MOST_CUTS {
             if self.parts.len() >= self.wanted || place >= self.parts.len() {
@@ -118,7 +124,7 @@ impl Listed {
                 place += 1;
             }
         }
-        self.number_anew(alloc, out)
+        Ok(())
     }
 
     /// So many more runs were given up, of a covering check.
