@@ -1,5 +1,5 @@
 //! Tracked values: what a run leaves behind of them is a leak.
-ghost use Rattle.std.specs.Prelude.{◌≡◌, None};
+ghost use Rattle.std.specs.Prelude.{◌≡◌};
 ghost use Rattle.loom_ops.specs.Alloc.{track_handle};
 ghost use Rattle.loom_objects.specs.Operation.Labelled.{bare};
 

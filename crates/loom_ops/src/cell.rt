@@ -1,6 +1,6 @@
 //! Cells: data that threads read and write, where accesses that meet fail the run.
 ghost use Rattle.std.specs.Fn.{FnOnceReturnsAtMut};
-ghost use Rattle.std.specs.Prelude.{◌≡◌, None};
+ghost use Rattle.std.specs.Prelude.{◌≡◌};
 ghost use Rattle.loom_ops.specs.Cell.{cell_handle, unsafe_cell_handle, reader_handle, reader_taken, writer_handle, writer_taken, written_in};
 ghost use Rattle.loom_objects.specs.Operation.Labelled.{bare};
 ghost use Rattle.loom_ops.specs.Answers.{given_in};

@@ -1,5 +1,5 @@
 //! Futures: a thread waits until a waker of its future notifies it. The body polls, in place of a future.
-ghost use Rattle.std.specs.Prelude.{◌≡◌, None};
+ghost use Rattle.std.specs.Prelude.{◌≡◌};
 ghost use Rattle.loom_ops.specs.Waker.{block_on_handle, waker_handle};
 ghost use Rattle.loom_objects.specs.Operation.Labelled.{bare};
 ghost use Rattle.loom_ops.specs.Answers.{taken_in};

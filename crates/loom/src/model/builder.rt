@@ -1,5 +1,5 @@
 //! How a check is done: its settings, their defaults, and which values they may have.
-ghost use Rattle.std.specs.Prelude.{◌≡◌, ◌≤◌, ◌<◌, Ok, OnOk, IfOk, IfErr, IfSome, Some, None, String, string_bytes};
+ghost use Rattle.std.specs.Prelude.{◌≡◌, ◌≤◌, ◌<◌, Ok, OnOk, IfOk, IfErr, IfSome, Some, String, string_bytes};
 ghost use Rattle.loom.specs.Model.Environment.{numbers_of, of_environment};
 ghost use Rattle.loom.specs.Model.Settings.{defaults, tested, tested_bound};
 

@@ -1,5 +1,5 @@
 //! What a check logs of a run, and how far it has come.
-ghost use Rattle.std.specs.Prelude.{◌≤◌, ◌<◌};
+ghost use Rattle.std.specs.Prelude.{◌≤◌};
 
 use log::{Log, debug, info, target_or};
 use loom_engine::rt::path::Path;

@@ -1,5 +1,5 @@
 //! A check saves its path, before a run and where it stops.
-ghost use Rattle.std.specs.Prelude.{◌≡◌, ◌<◌, ◌+◌, ◌-◌, ◌^◌, IfOk, OnErr, string_bytes};
+ghost use Rattle.std.specs.Prelude.{◌≡◌, ◌<◌, ◌-◌, ◌^◌, IfOk, OnErr, string_bytes};
 ghost use Rattle.loom.specs.Model.Rounds.{ComesTo};
 ghost use Rattle.loom_engine.specs.Path.Route.{IsAtStart, stored};
 ghost use Rattle.loom.specs.Model.Saving.{IsKept, IsLeft, IsSavedAs, IsStoppedWith};

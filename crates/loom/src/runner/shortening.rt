@@ -1,5 +1,5 @@
 //! A run of a closure that fails as another one does, but is shorter (own).
-ghost use Rattle.std.specs.Prelude.{◌≡◌, ◌↔◌, ◌≤◌, ◌<◌, ◌^◌, Err, IfErr, IfOk, IfSome, IsTrue, Some, is_some, true, ◌+◌, ◌-◌};
+ghost use Rattle.std.specs.Prelude.{◌≡◌, ◌↔◌, ◌≤◌, ◌<◌, ◌^◌, Err, IfErr, IfOk, IfSome, IsTrue, is_some, true, ◌+◌, ◌-◌};
 ghost use Rattle.std.specs.Fn.{CalledAtMut};
 ghost use Rattle.loom_engine.specs.Path.Drawn.{IsDrawn};
 ghost use Rattle.loom_engine.specs.Path.Route.{IsAtStart, chosen};

@@ -1,5 +1,5 @@
 //! Atomic wakers: a place where one thread registers its waker, and another takes it out to wake it.
-ghost use Rattle.std.specs.Prelude.{◌≡◌, None};
+ghost use Rattle.std.specs.Prelude.{◌≡◌};
 ghost use Rattle.loom_ops.specs.Waker.{atomic_waker_handle};
 ghost use Rattle.loom_objects.specs.Operation.Labelled.{bare};
 

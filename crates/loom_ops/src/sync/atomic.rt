@@ -1,5 +1,5 @@
 //! Atomics: numbers that threads load and store without waiting for one another.
-ghost use Rattle.std.specs.Prelude.{◌≡◌, None};
+ghost use Rattle.std.specs.Prelude.{◌≡◌};
 ghost use Rattle.loom_objects.specs.Operation.Labelled.{bare};
 ghost use Rattle.std.specs.Option.{option_map};
 ghost use Rattle.loom_ops.specs.Atomic.{atomic_handle, value_in, exchange, exchanged_in, update, fetched_in};

@@ -1,5 +1,5 @@
 //! Condition variables: threads sleep on them until others notify.
-ghost use Rattle.std.specs.Prelude.{◌≡◌, None};
+ghost use Rattle.std.specs.Prelude.{◌≡◌};
 ghost use Rattle.loom_objects.specs.Operation.Labelled.{bare};
 ghost use Rattle.loom_ops.specs.Condvar.{condvar_handle, timeout_in};
 ghost use Rattle.loom_ops.specs.Answers.{waited_in};

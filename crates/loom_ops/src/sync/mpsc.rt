@@ -1,5 +1,5 @@
 //! Channels: many threads send messages, and one receives them.
-ghost use Rattle.std.specs.Prelude.{◌≡◌, None};
+ghost use Rattle.std.specs.Prelude.{◌≡◌};
 ghost use Rattle.loom_ops.specs.Mpsc.{receiver_handle, sender_handle};
 ghost use Rattle.loom_objects.specs.Operation.Labelled.{bare};
 ghost use Rattle.loom_ops.specs.Answers.{channel_in, sent_in, received_in, drained_in, tried_receive_in};

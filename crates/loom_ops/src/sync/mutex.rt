@@ -1,5 +1,5 @@
 //! Mutexes: one thread at a time holds a mutex, and has its data meanwhile.
-ghost use Rattle.std.specs.Prelude.{◌≡◌, None};
+ghost use Rattle.std.specs.Prelude.{◌≡◌};
 ghost use Rattle.loom_objects.specs.Operation.Labelled.{bare};
 ghost use Rattle.loom_ops.specs.Mutex.{mutex_handle, guard_handle, guard_taken};
 ghost use Rattle.loom_ops.specs.Answers.{guard_in, tried_in};

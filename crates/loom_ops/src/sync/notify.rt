@@ -1,5 +1,5 @@
 //! Notifiers: one thread waits until others notify.
-ghost use Rattle.std.specs.Prelude.{◌≡◌, None};
+ghost use Rattle.std.specs.Prelude.{◌≡◌};
 ghost use Rattle.loom_ops.specs.Notify.{notify_handle};
 ghost use Rattle.loom_objects.specs.Operation.Labelled.{bare};
 

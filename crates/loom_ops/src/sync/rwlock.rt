@@ -1,5 +1,5 @@
 //! Read-write locks: many threads read, or one writes.
-ghost use Rattle.std.specs.Prelude.{◌≡◌, None};
+ghost use Rattle.std.specs.Prelude.{◌≡◌};
 ghost use Rattle.loom_ops.specs.RwLock.{rwlock_handle, read_guard_handle, read_guard_taken, write_guard_handle, write_guard_taken};
 ghost use Rattle.loom_objects.specs.Operation.Labelled.{bare};
 ghost use Rattle.loom_ops.specs.Answers.{tried_read_in, tried_write_in};

@@ -1,5 +1,5 @@
 //! Conditions on final states.
-ghost use Rattle.std.specs.Prelude.{◌≡◌, ◌<◌, length, All, IfOk, IfSome};
+ghost use Rattle.std.specs.Prelude.{◌≡◌, length, All, IfOk, IfSome};
 ghost use Rattle.loom_text.specs.Conditions.{comparison_at, condition_at, conjunction_of, disjunction_of, formula, has_value, location_term, part_at, places_of, register_term, term_at, threads_of};
 ghost use Rattle.loom_text.specs.Named.{HasValue, IsConditionOf, IsTermOf};
 ghost use Rattle.loom_text.specs.Printing.{FitsReader};

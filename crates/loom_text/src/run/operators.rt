@@ -1,5 +1,5 @@
 //! What C's operators make of two numbers. A number is the 32 bits of an `int`, as a `u32`.
-ghost use Rattle.std.specs.Prelude.{◌≡◌, ◌<◌, ◌^◌};
+ghost use Rattle.std.specs.Prelude.{◌≡◌};
 ghost use Rattle.loom_text.specs.Run.Operators.{applied, is_less, is_negative, negated, quotient, remainder, shifted_left, shifted_right, size, truth};
 
 /// An operator between two numbers. Sums, differences and products have the lowest 32 bits, and a comparison gives 1 or 0 (own).

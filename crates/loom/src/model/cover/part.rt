@@ -1,6 +1,6 @@
 //! Checks of a part of a covering search, some runs at a time (own). What was noted before is in a table that several workers may read
 //! at once; what is new is noted in another one, which the caller adds to it when the part is given back.
-ghost use Rattle.std.specs.Prelude.{◌≡◌, ◌≤◌, ◌⊎◌, [], Err, IfErr, IfOk, OnErr, false};
+ghost use Rattle.std.specs.Prelude.{◌≡◌, ◌≤◌, ◌⊎◌, [], Err, IfErr, IfOk, OnErr};
 ghost use Rattle.loom_engine.specs.Covering.Spread.{IsSpread};
 ghost use Rattle.loom_engine.specs.Path.Route.{at_rest, settings};
 ghost use Rattle.loom_engine.specs.Trees.Meeting.{whole_search};

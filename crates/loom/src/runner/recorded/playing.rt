@@ -1,5 +1,5 @@
 //! A run that is made of what is recorded: no thread is started for it.
-ghost use Rattle.std.specs.Prelude.{◌≡◌, ◌≤◌, [], IfOk, IfSome, List, None, Some};
+ghost use Rattle.std.specs.Prelude.{◌≡◌, ◌≤◌, [], IfOk, IfSome, List, None};
 ghost use Rattle.loom_engine.specs.Path.Route.{IsAtStart, IsSameSearch};
 ghost use Rattle.loom.specs.Explain.Story.{Story};
 ghost use Rattle.loom.specs.Model.Run.{IsEndBy, IsLocated, RunsAlong};
