@@ -37,7 +37,8 @@ impl Claim {
     fn action(self) -> Action {
         match self {
             Claim::Write | Claim::TryWrite => Action::Write,
-            _ => Action::Other,
+            Claim::Read | Claim::TryRead => Action::Other,
+            Claim::Lock | Claim::TryLock | Claim::Relock => Action::Other,
         }
     }
 }

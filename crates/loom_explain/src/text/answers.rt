@@ -262,16 +262,22 @@ pub(crate) fn cell_touch(op: &CellOp<()>) -> Option<(usize, Manner)> {
 /// Which object the thread has by this reply.
 pub(crate) fn taken_by(reply: &Reply<()>) -> Option<usize> {
     match reply {
+        Reply::Reading(number, _) | Reply::Writing(number, _) => Some(*number),
+        _ => locked_by(reply),
+    }
+}
+
+/// Which lock the thread has by this reply.
+pub(crate) fn locked_by(reply: &Reply<()>) -> Option<usize> {
+    match reply {
         Reply::Locked(number, _)
         | Reply::Waited(number, _, _)
         | Reply::ReadLocked(number, _)
-        | Reply::WriteLocked(number, _)
-        | Reply::Reading(number, _)
-        | Reply::Writing(number, _) => Some(*number),
+        | Reply::WriteLocked(number, _) => Some(*number),
         made!() | refused!() | lists!() => None,
         Reply::Start | Reply::Done | Reply::Value(_) | Reply::Exchanged(_) => None,
         Reply::Data(_) | Reply::SendError(_) | Reply::Stood(..) => None,
-        Reply::Waker(_) | Reply::Thread(..) => None,
+        Reply::Reading(..) | Reply::Writing(..) | Reply::Waker(_) | Reply::Thread(..) => None,
     }
 }
 

@@ -1,7 +1,7 @@
 //! What comes of what: which store is read, who gave a lock free that another thread has next, and who began or woke a thread.
 use crate::event::Event;
 use crate::picture::{Spot, Tie};
-use crate::text::answers::{Answer, is_done};
+use crate::text::answers::{Answer, is_done, locked_by};
 use crate::text::forms::{Call, Ties};
 use crate::text::objects::Store;
 use loom_objects::operation::{CondvarOp, Op, Reply, Request};
@@ -293,16 +293,5 @@ impl Links {
 impl Left {
     fn is_of(&self, tie: Tie, at: At) -> bool {
         self.tie == tie && self.at == at
-    }
-}
-
-/// The lock that the thread has by this reply.
-fn locked_by(reply: &Reply<()>) -> Option<usize> {
-    match reply {
-        Reply::Locked(number, _)
-        | Reply::Waited(number, _, _)
-        | Reply::ReadLocked(number, _)
-        | Reply::WriteLocked(number, _) => Some(*number),
-        _ => None,
     }
 }
