@@ -7,6 +7,7 @@ ghost use Rattle.loom_examples.specs.Rows.Printed.{PrintedChecked, PrintedNamed,
 pub mod changes;
 pub mod cover;
 pub mod drawing;
+pub(crate) mod found;
 pub mod jobs;
 pub mod json;
 pub mod line;

@@ -1,106 +1,25 @@
 //! What the program does with a row of closures by its options: a check by other settings, with rising bounds, by several workers or
 //! one that remembers states, a walk, one run by given choices, a shorter failure, an explanation of a failure, and a JSON object.
 use crate::closures::rows::{ClosureRow, refuse_run};
-use crate::rows::cover::{self, ShownCovered};
 use crate::rows::drawing::Drawing;
+use crate::rows::found::{Found, failing_choices};
 use crate::rows::jobs;
-use crate::rows::json::{of_covered, of_replay, of_report, print_answer};
-use crate::rows::line::{self, ShownReport};
 use crate::rows::options::RowAsked;
 use crate::rows::parted::Parted;
 use crate::rows::shares::ONE_COVERS;
-use crate::rows::tasks::{ShownReplay, ShownRisen, Task};
+use crate::rows::tasks::Task;
 use crate::rows::walks::{SHORTENING_RUNS, failing_in, print_shortened, print_walked};
 use crate::rows::words::{refuse, refuse_choices};
 use log::Log;
 use loom::model::builder::Builder;
-use loom::model::cover::Covered;
 use loom::model::different::MOST_DIFFERENT;
-use loom::model::rising::Risen;
-use loom::model::{Replay, Report, Walk};
+use loom::model::{Report, Walk};
 use loom::runner::{Host, RunnerError};
 use loom::{Choice, Choices};
-use std::alloc::Global;
 use std::io::{self, Write};
 use std::rt::{Clock, Files};
 use std::sync::Wait;
 use std::thread::Threads;
-
-/// What came of a row of closures.
-#[derive(Drop)]
-enum Found {
-    /// What a check found.
-    Report(Report),
-    /// What checks with rising bounds found.
-    Risen(Risen),
-    /// How a run by given choices ended.
-    Replay(Replay<u64>),
-    /// What a check found that remembers states.
-    Covered(Covered),
-}
-
-impl Found {
-    /// The choices of the run that failed, if one did.
-    fn failing(&self) -> Option<&[Choice]> {
-        match self {
-            Found::Report(report) => failing_choices(report),
-            Found::Risen(risen) => failing_choices(&risen.report),
-            Found::Replay(Replay::Failed { choices, .. }) => Some(choices.as_slice()),
-            Found::Replay(Replay::Ended { .. }) => None,
-            Found::Covered(Covered::Failed { choices, .. }) => Some(choices.as_slice()),
-            Found::Covered(
-                Covered::Complete { .. } | Covered::Livelock { .. } | Covered::Stopped { .. },
-            ) => None,
-        }
-    }
-
-    /// Prints its line, and answers the exit status.
-    fn print<O: Write>(&self, out: &mut O) -> io::Result<u8> {
-        match self {
-            Found::Report(report) => {
-                let shown = ShownReport(report);
-                writeln!(out, "{shown}")?;
-                Ok(line::status_of(report))
-            }
-            Found::Risen(risen) => {
-                let shown = ShownRisen(risen);
-                writeln!(out, "{shown}")?;
-                Ok(line::status_of(&risen.report))
-            }
-            Found::Replay(replay) => {
-                let shown = ShownReplay(replay);
-                writeln!(out, "{shown}")?;
-                match replay {
-                    Replay::Ended { .. } => Ok(0),
-                    Replay::Failed { .. } => Ok(1),
-                }
-            }
-            Found::Covered(covered) => {
-                let shown = ShownCovered(covered);
-                writeln!(out, "{shown}")?;
-                Ok(cover::status_of(covered))
-            }
-        }
-    }
-
-    /// Prints its JSON object, and answers the exit status.
-    fn print_object<O: Write>(&self, alloc: Global, name: &str, out: &mut O) -> io::Result<u8> {
-        let answer = match self {
-            Found::Report(report) => of_report(alloc, name, None, report)?,
-            Found::Risen(risen) => of_report(alloc, name, Some(risen.bound), &risen.report)?,
-            Found::Replay(replay) => of_replay(alloc, name, replay)?,
-            Found::Covered(covered) => of_covered(alloc, name, covered)?,
-        };
-        print_answer(alloc, &answer, out)
-    }
-}
-
-fn failing_choices(report: &Report) -> Option<&[Choice]> {
-    match report {
-        Report::Failed { choices, .. } => Some(choices.as_slice()),
-        Report::Complete { .. } | Report::Stopped { .. } => None,
-    }
-}
 
 /// Does what is asked of a row of closures, by the settings of this builder where neither the words nor the row name others. Prints what
 /// comes of it, and answers the exit status. The log hears of a walk.

@@ -1,16 +1,14 @@
 //! A failure that is explained, and drawn into files.
 use crate::bodies::updates::Updater;
 use crate::rows::changes::Changes;
-use crate::rows::line::{self, ShownReport};
+use crate::rows::found::Found;
 use crate::rows::settings::Builds;
-use crate::rows::tasks::{ShownReplay, ShownRisen, Task, UP_TO};
+use crate::rows::tasks::{Task, UP_TO};
 use crate::rows::{Checked, Row, refuse_check, timed};
 use crate::scripts::script::Script;
 use loom::explain::Explanation;
 use loom::model::builder::Builder;
 use loom::model::error::CheckError;
-use loom::model::rising::Risen;
-use loom::model::{Replay, Report};
 use loom::{Body, Choice};
 use std::alloc::Global;
 use std::fs::File;
@@ -24,17 +22,6 @@ pub struct Drawing<'a> {
     pub svg: Option<&'a str>,
     /// As a diagram of Mermaid.
     pub mermaid: Option<&'a str>,
-}
-
-/// What came of a row.
-#[derive(Drop)]
-pub(crate) enum Found {
-    /// What a check found.
-    Report(Report),
-    /// What checks with rising bounds found.
-    Risen(Risen),
-    /// How a run by given choices ended.
-    Replay(Replay<u64>),
 }
 
 impl Drawing<'_> {
@@ -62,46 +49,6 @@ impl Drawing<'_> {
 
 fn write_file<R: Files>(rt: &R, path: &str, text: &str) -> io::Result<()> {
     File::create(rt, path)?.write_all(text.as_bytes())
-}
-
-impl Found {
-    /// The choices of the run that failed, if one did.
-    pub(crate) fn failing(&self) -> Option<&[Choice]> {
-        match self {
-            Found::Report(Report::Failed { choices, .. })
-            | Found::Replay(Replay::Failed { choices, .. }) => Some(choices.as_slice()),
-            Found::Risen(risen) => match &risen.report {
-                Report::Failed { choices, .. } => Some(choices.as_slice()),
-                Report::Complete { .. } | Report::Stopped { .. } => None,
-            },
-            Found::Report(Report::Complete { .. } | Report::Stopped { .. })
-            | Found::Replay(Replay::Ended { .. }) => None,
-        }
-    }
-
-    /// Prints its line, and answers the exit status.
-    pub(crate) fn print<O: Write>(&self, out: &mut O) -> io::Result<u8> {
-        match self {
-            Found::Report(report) => {
-                let shown = ShownReport(report);
-                writeln!(out, "{shown}")?;
-                Ok(line::status_of(report))
-            }
-            Found::Risen(risen) => {
-                let shown = ShownRisen(risen);
-                writeln!(out, "{shown}")?;
-                Ok(line::status_of(&risen.report))
-            }
-            Found::Replay(replay) => {
-                let shown = ShownReplay(replay);
-                writeln!(out, "{shown}")?;
-                match replay {
-                    Replay::Ended { .. } => Ok(0),
-                    Replay::Failed { .. } => Ok(1),
-                }
-            }
-        }
-    }
 }
 
 /// Does this with the row, with these settings in place of its own, and prints the line. Where a run failed it is explained behind

@@ -206,7 +206,8 @@ fn do_replay<R: AllocGlobal + Files, B: Body<Data = u64>, O: Write, E: Write>(
     }
 }
 
-fn print_risen<W: Write>(out: &mut W, risen: &Risen) -> io::Result<u8>
+/// Prints the line, and answers the exit status.
+pub(crate) fn print_risen<W: Write>(out: &mut W, risen: &Risen) -> io::Result<u8>
     ensures { IfOk result (λ status. PrintedRisen risen.now (W.contents out.old) (W.contents out.new) status) }
 {
     let shown = ShownRisen(risen);
@@ -214,7 +215,8 @@ fn print_risen<W: Write>(out: &mut W, risen: &Risen) -> io::Result<u8>
     Ok(line::status_of(&risen.report))
 }
 
-fn print_replay<W: Write>(out: &mut W, replay: &Replay<u64>) -> io::Result<u8>
+/// Prints the line, and answers the exit status.
+pub(crate) fn print_replay<W: Write>(out: &mut W, replay: &Replay<u64>) -> io::Result<u8>
     ensures { IfOk result (λ status. PrintedReplay replay.now (W.contents out.old) (W.contents out.new) status) }
 {
     let shown = ShownReplay(replay);

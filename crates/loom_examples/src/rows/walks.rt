@@ -1,6 +1,7 @@
 //! Walks of a row, and shorter failures: what is looked for where no search ends.
 use crate::bodies::updates::Updater;
-use crate::rows::drawing::{Found, find, tell_failure};
+use crate::rows::drawing::{find, tell_failure};
+use crate::rows::found::Found;
 use crate::rows::line::SpacedChoices;
 use crate::rows::options::RowAsked;
 use crate::rows::settings::Builds;
