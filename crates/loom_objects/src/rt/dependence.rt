@@ -73,6 +73,16 @@ impl Dependence {
         Ok(())
     }
 
+    /// A copy. An error where memory is refused (own).
+    pub fn try_clone(&self, alloc: Global) -> Result<Dependence, AllocError>
+        ensures { IfOk result (λ copy. copy ≡ self.now) }
+    {
+        Ok(Dependence {
+            threads: self.threads.try_clone(alloc)?,
+            last: self.last.try_clone(alloc)?,
+        })
+    }
+
     /// Of how many threads there are accesses in order (own).
     pub fn thread_count(&self) -> usize
         ensures { result ≡ length self.now.threads }

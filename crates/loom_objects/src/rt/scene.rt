@@ -18,13 +18,16 @@ ghost use Rattle.loom_objects.specs.World.{MAX_THREADS, main_thread, opening};
 ghost use Rattle.loom_objects.specs.contracts.rt.object.Object as object_row;
 ghost use Rattle.loom_views.specs.Views.{Points, ShowsViews, opening as first_points};
 
+use crate::data::Data;
 use crate::operation::{Lazy, Reply, Turn};
+use crate::rt::kept::copied_all;
 use crate::rt::object::Object;
 use crate::rt::run::{Passed, Resumed};
 use crate::rt::schedule::{Yields, no_yields};
 use crate::rt::thread::{State, Task, Thread};
 use loom_views::rt::failure::FailureKind;
 use loom_views::rt::views::Views;
+use loom_views::same::Same;
 use loom_views::sequence::Sequence;
 use std::alloc::{AllocError, Global};
 use std::marker::Model;
@@ -248,6 +251,24 @@ impl<D: Drop> Scene<D> {
         ensures { result ≡ Resumed.Passed (Passed.Turn (Turn.Reply self.now.active reply)) }
     {
         Resumed::Passed(Passed::Turn(Turn::Reply(self.active, reply)))
+    }
+}
+
+impl<D: Data + Same> Scene<D> {
+    /// A copy. An error where memory is refused (own).
+    pub fn try_clone(&self) -> Result<Scene<D>, AllocError>
+        ensures { IfOk result (λ copy. copy ≡ self.now) }
+    {
+        Ok(Scene {
+            threads: copied_all(self.alloc, self.threads.as_slice())?,
+            objects: copied_all(self.alloc, self.objects.as_slice())?,
+            views: self.views.try_clone(self.alloc)?,
+            lazies: copied_all(self.alloc, self.lazies.as_slice())?,
+            active: self.active,
+            yields: self.yields,
+            max_threads: self.max_threads,
+            alloc: self.alloc,
+        })
     }
 }
 

@@ -21,6 +21,7 @@ use crate::rt::failure::FailureKind;
 use crate::rt::ranks::Standing;
 use crate::rt::synchronize::{Synchronize, ThreadViews};
 use crate::rt::views::places::Places;
+use crate::rt::views::ranked::copied;
 use crate::rt::vv::VersionVec;
 use crate::rt::{MAX_ATOMIC_HISTORY, MAX_THREADS};
 use crate::sequence::Sequence;
@@ -62,6 +63,19 @@ impl Views {
             stamps: Sequence::new(alloc),
             global: VersionVec::new(),
         }
+    }
+
+    /// A copy. An error where memory is refused (own).
+    pub fn try_clone(&self, alloc: Global) -> Result<Views, AllocError>
+        ensures { IfOk result (λ copy. copy ≡ self.now) }
+    {
+        Ok(Views {
+            threads: copied(&self.threads),
+            count: self.count,
+            places: self.places.try_clone(alloc)?,
+            stamps: self.stamps.try_clone(alloc)?,
+            global: self.global,
+        })
     }
 
     /// Main alone again, and no object. It takes no memory, and the room for objects stays (own).

@@ -1,6 +1,6 @@
 //! What is kept of each object of a run, in the order made. The places of a run that is over are written over by the next run.
 
-ghost use Rattle.std.specs.Prelude.{◌≡◌, ◌++◌, ◌∷◌, ◌<◌, [], OnErr, OnOk, length, slice_get};
+ghost use Rattle.std.specs.Prelude.{◌≡◌, ◌++◌, ◌∷◌, ◌<◌, [], IfOk, OnErr, OnOk, length, slice_get};
 ghost use Rattle.std.specs.Borrow.{sem};
 ghost use Rattle.loom_views.specs.Places.{lends_place};
 ghost use Rattle.loom_views.specs.declared.rt.views.Kept.TheVariants.{Point};
@@ -122,5 +122,16 @@ impl Places {
         set(self.items.at_mut(self.count), kept);
         self.count += 1;
         Ok(())
+    }
+
+    /// A copy. An error where memory is refused (own).
+    pub fn try_clone(&self, alloc: Global) -> Result<Places, AllocError>
+        ensures { IfOk result (λ copy. copy ≡ self.now) }
+    {
+        let items = Vec::from_slice(alloc, self.as_slice())?;
+        Ok(Places {
+            count: items.len(),
+            items: Sequence::from_vec(items),
+        })
     }
 }

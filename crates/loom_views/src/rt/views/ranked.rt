@@ -228,7 +228,7 @@ fn ranked_stamps(
 }
 
 /// A copy of the views of threads.
-fn copied(threads: &[ThreadViews; MAX_THREADS]) -> [ThreadViews; MAX_THREADS]
+pub(crate) fn copied(threads: &[ThreadViews; MAX_THREADS]) -> [ThreadViews; MAX_THREADS]
     ensures { result ≡ threads.now }
 {
     let [main, first, second, third, fourth] = threads;
