@@ -33,6 +33,7 @@ use loom_objects::rt::run::{Entry, Passed, Resumed, RunState};
 use loom_objects::rt::scene::Scene;
 use loom_views::rt::MAX_ATOMIC_HISTORY;
 use loom_views::rt::failure::FailureKind;
+use loom_views::same::Same;
 use std::alloc::{AllocError, Global};
 use std::marker::Model;
 
@@ -116,6 +117,26 @@ impl<D> Model for Execution<D> {
     ghost Value = { ExecutionState D };
 
     ghost view = { λ e. record { run = e.run; over = e.over } };
+}
+
+impl<D: Data + Same> Execution<D> {
+    /// A copy. An error where memory is refused (own).
+    pub fn try_clone(&self) -> Result<Execution<D>, AllocError>
+        ensures { IfOk result (λ copy. copy ≡ self.now) }
+    {
+        let scene = self.run.state.scene.try_clone()?;
+        let dependence = self.run.dependence.try_clone(scene.alloc())?;
+        Ok(Execution {
+            run: Progress {
+                state: RunState {
+                    scene,
+                    steps_left: self.run.state.steps_left,
+                },
+                dependence,
+            },
+            over: self.over,
+        })
+    }
 }
 
 impl<D: Data> Execution<D> {
