@@ -18,3 +18,4 @@ pub mod Reporting
 pub mod Resuming
 pub mod Unchosen
 pub mod Binding
+pub mod Retracing

@@ -15,3 +15,4 @@ pub mod Reports
 pub mod Resuming
 pub mod Example
 pub mod Foreign
+pub mod Retracing
