@@ -6,5 +6,6 @@ pub mod Nodes
 pub mod Parts
 pub mod Path
 pub mod Runs
+pub mod Snapshots
 pub mod Trees
 pub mod Walk

@@ -3,4 +3,5 @@
 pub mod execution;
 pub mod parts;
 pub mod path;
+pub mod snapshots;
 pub mod states;

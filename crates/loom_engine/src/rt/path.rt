@@ -8,6 +8,7 @@ pub mod node;
 pub mod nodes;
 pub mod opening;
 pub mod part;
+pub mod standing;
 pub mod word;
 
 ghost use Rattle.std.specs.Prelude.{◌≡◌, ◌≢◌, ◌≤◌, ◌<◌, ◌+◌, ◌↔◌, ℕ, List, [], ◌∷◌, ◌++◌, Option, Some, IfOk, IfErr, IfSome, IsTrue, slice_get, map, length, take, true};

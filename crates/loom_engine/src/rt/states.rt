@@ -136,7 +136,7 @@ fn are_yields_same(one: &Yields, other: &Yields) -> bool
 }
 
 /// Copies of bodies. An error where memory is refused.
-fn copied_bodies<B: Body>(alloc: Global, bodies: &[B]) -> Result<Sequence<B>, AllocError>
+pub(crate) fn copied_bodies<B: Body>(alloc: Global, bodies: &[B]) -> Result<Sequence<B>, AllocError>
     ensures { IfOk result (λ copy. copy ≡ bodies.now) }
 {
     let mut copy = Vec::with_capacity(alloc, bodies.len())?;
