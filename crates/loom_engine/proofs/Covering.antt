@@ -33,6 +33,7 @@ pub mod Handing
 pub mod Nodes
 pub mod Turns
 pub mod Kept
+pub mod Retraced
 pub mod Way
 pub mod Led
 pub mod UnderWay

@@ -39,3 +39,4 @@ pub mod Receiving
 pub mod InOrder
 pub mod Rows
 pub mod Reduced
+pub mod Closing

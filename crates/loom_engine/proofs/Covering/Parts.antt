@@ -114,7 +114,7 @@ module _ {A : Type 0} (P : A → Type 0) where
 
 -- ---- an operation that is begun doesn't close the run
 
-abbrev NoMore : {A : Type 0} → A → Type 0
+abbrev pub NoMore : {A : Type 0} → A → Type 0
 NoMore a = ⊥
 
 module _ {D : Type 0} where
@@ -137,7 +137,7 @@ module _ {D : Type 0} where
   comes_open (AtSpurious n) c = woken_open n c
   comes_open (Explores todo) c = switch_open c (switched todo c.exploring)
 
-  begins_open : (op : Request D ⊤) (c : Course D) → ClosesGive {A = Begun D × Course D} NoMore (begins_at op c)
+  pub begins_open : (op : Request D ⊤) (c : Course D) → ClosesGive {A = Begun D × Course D} NoMore (begins_at op c)
   begins_open op c = by (counted op c.world)
     where
       by : (r : Result (Entry D × World D) FailureKind) → ClosesGive {A = Begun D × Course D} NoMore (carried c (came r) >>= (λ (entry, after). comes_to (entry, grown_from c.world after)))

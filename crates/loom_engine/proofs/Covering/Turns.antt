@@ -33,7 +33,7 @@ use Rattle.loom_engine.proofs.Trees.Binding.{drive_then, drive_fails}
 
 module _ {D : Type 0} where
   -- the run has ended
-  abbrev Over : Passed D × Course D → Type 0
+  abbrev pub Over : Passed D × Course D → Type 0
   Over (passed.Turn turn, c) = IsEnded turn
   Over (passed.AtBranch, c) = ⊥
 
@@ -72,7 +72,7 @@ module _ {D : Type 0} where
       by (Ok (resumed.Load load, w)) = asked_open load (one_passed c) w (is_on c.exploring) (slots load.readable)
       by (Err kind) = tt
 
-  chooses_open : (c : Course D) (o : Choice) → ClosesGive {A = Passed D × Course D} Over (chooses c o)
+  pub chooses_open : (c : Course D) (o : Choice) → ClosesGive {A = Passed D × Course D} Over (chooses c o)
   chooses_open c (choice.Thread (Some t)) = by (accesses t c)
     where
       by : (r : Result (Course D) FailureKind) → ClosesGive {A = Passed D × Course D} Over (came r >>= goes_by t)

@@ -1,7 +1,8 @@
 -- A run of a body with a table of states, from turn to turn, and what it comes to.
-use Rattle.std.proofs.Common.{◌≡◌, ◌<◌, ◌≤◌, ◌⊎◌, ℕ, zero, suc, arith, length-append, Bool, true, false, List, [], ◌∷◌, ◌++◌, length, take, Option, Some, None, Ok, Err, refl, ap, sym, ◌∙◌, subst, inl, inr}
+use Rattle.std.proofs.Common.{◌≡◌, ◌<◌, ◌≤◌, ◌⊎◌, ℕ, zero, suc, arith, length-append, Bool, true, false, List, [], ◌∷◌, ◌++◌, length, take, Option, Some, None, Ok, Err, refl, ap, ap₂, sym, ◌∙◌, subst, inl, inr}
 use Rattle.std.specs.Prelude.{map, slice_get, slice_set}
 use Rattle.std.specs.List.{Contains}
+use Rattle.std.proofs.lemmas.List.{length-take-le}
 use Rattle.std.proofs.lemmas.List.Elements.{Contains-append_cases}
 use Rattle.loom_views.specs.Laws.Moves.{none}
 use Rattle.loom_views.specs.declared.rt.failure.FailureKind.{FailureKind}
@@ -32,25 +33,28 @@ use Rattle.loom_engine.specs.Runs.Course.{Course, opening, unordered_in}
 use Rattle.loom_engine.specs.Runs.Machine.{chooses, further, further_branches, passes, schedule}
 use Rattle.loom_engine.specs.Trees.Meeting.{Marking, whole_search}
 use Rattle.loom_engine.specs.Trees.Drive.{Trail, at_start, drive}
+use Rattle.loom_engine.specs.Trees.Retracing.{BeginsWith, standing_at}
 use Rattle.loom_engine.specs.Walk.Path.{Stored, choices, node_at}
 use Rattle.loom_engine.specs.Covering.Cut.{cut, passed}
 use Rattle.loom_engine.specs.Covering.Kept.{AreKeptAfter, GrowsFrom, IsKeptOf, Key, Noted, NotesAs, state_in}
-use Rattle.loom_engine.specs.Covering.Moments.{Moment, Next, Stand, first_stand, handing, settled, to_schedule}
+use Rattle.loom_engine.specs.Covering.Moments.{Moment, Next, Stand, first_stand, handing, settled, stand_after, to_schedule}
 use Rattle.loom_engine.specs.Covering.Parts.{IsEnded, LeadsOn, StayThere, TurnsOn, on_begun, on_turn}
 use Rattle.loom_engine.specs.Covering.Sight.{seen_by}
 use Rattle.loom_engine.specs.Covering.States.{seen_in, state_of}
 use Rattle.loom_engine.specs.Covering.Table.{HasState, IsAlong}
-use Rattle.loom_engine.specs.Covering.UnderWay.{HasNode, IsLed, after_begun, never, onward}
+use Rattle.loom_engine.specs.Covering.UnderWay.{HasNode, IsLed, IsOpen, LeadsUncut, StoodAt, after_begun, never, onward}
 use Rattle.loom_engine.specs.Covering.UnderWay as under
 use Rattle.loom_engine.proofs.Covering.Begun.{beginning_law}
 use Rattle.loom_engine.proofs.Covering.Handing.{handing_law}
 use Rattle.loom_engine.proofs.Covering.Kept.{has_at, kept_law}
 use Rattle.loom_engine.proofs.Covering.Led.{begun_along, schedule_along}
 use Rattle.loom_engine.proofs.Covering.Nodes.{nodes_law}
-use Rattle.loom_engine.proofs.Covering.Parts.{begun_law}
+use Rattle.loom_engine.proofs.Covering.Parts.{NoMore, begins_open, begun_law}
 use Rattle.loom_engine.proofs.Covering.Turns.{schedule_law}
 use Rattle.loom_engine.proofs.Covering.Unfolding.{bound}
 use Rattle.loom_engine.proofs.Walk.Lists.{node_chooses, node_on as on_path, not_longer}
+use Rattle.loom_engine.proofs.Runs.Closing.{HasEnded, schedule_open}
+use Rattle.loom_engine.proofs.Trees.Retracing.{begins_front, begins_long, begins_on, keeps}
 use Rattle.loom_engine.proofs.Covering.Way.{it_was, just_at, way_begins, way_ends, way_fails, way_on, way_same, way_stops}
 
 -- ---- lists of states
@@ -232,6 +236,48 @@ module _ {D S : Type 0} (room : ℕ) (adds : Marking) (next : Meaning D S) (expl
   pub turn_begins : AtTurn (at_start p) (suc max_steps) (body ∷ []) (opening explores max_threads max_steps) 0 reply.Start
   turn_begins = record { last = None; since = []; way = way_begins room adds next tree (first_stand next explores max_threads max_steps body) p _ refl; led = none }
 
+  -- ---- a run that goes on from where another one stood
+
+  same_choices_begin : (front q : List Stored) → BeginsWith front q → choices (take (length front) q) ≡ choices front
+  same_choices_begin [] q b = refl
+  same_choices_begin (n ∷ front) [] b = absurd b
+  same_choices_begin (n ∷ front) (m ∷ q) b = ap₂ (λ (x : Choice) (l : List Choice). x ∷ l) b.0.present (same_choices_begin front q b.1)
+
+  module _ (front : List Stored) (left : ℕ) (bodies : List S) (c : Course D) (stood : StoodAt room adds next explores max_threads max_steps body front left bodies c) (b : BeginsWith front p) where
+    abbrev ahead : Tree D
+    ahead = schedule further_branches c >>= onward next left bodies
+
+    abbrev here : Trail
+    here = standing_at (length front) (at_start p)
+
+    same : passed here ≡ choices front
+    same = same_choices_begin front p b
+
+    long : length (take (length front) p) ≡ length front
+    long = length-take-le (length front) p (begins_long front p b)
+
+    leads_here : LeadsUncut room adds tree (take (length front) p) ahead
+    leads_here stop open_ q from =
+        stood.leads stop (subst (IsOpen stop) same open_) q (begins_on front (take (length front) p) q.nodes (begins_front front p b) from)
+        ∙ ap₂ (λ (l : List Choice) (k : ℕ). drive (whole_search room) adds (cut stop l ahead) (standing_at k q)) (sym same) (sym long)
+
+    -- along a path that begins so
+    pub goes_on_there : AtBranch here left bodies c
+    goes_on_there = record {
+      last = stood.last;
+      since = stood.since;
+      way = record {
+        within = begins_long front p b;
+        cuts = λ stop open_.
+            stood.leads stop (subst (IsOpen stop) same open_) (at_start p) b
+            ∙ ap (λ (l : List Choice). drive (whole_search room) adds (cut stop l ahead) here) (sym same);
+        leads = leads_here;
+        stays = λ d n at. at;
+        stands = ap (stand_after next (first_stand next explores max_threads max_steps body)) same ∙ stood.stands;
+      };
+      led = stood.led;
+    }
+
   -- ---- an operation that is handed over
 
   module _ (left : ℕ) (bodies : List S) (c : Course D) (thread : ℕ) (answer : Reply D) (before after : S) (op : Op D S) (here : slice_get bodies thread ≡ Some before) (step : (after, op) ≡ next before answer) where
@@ -293,11 +339,15 @@ module _ {D S : Type 0} (room : ℕ) (adds : Marking) (next : Meaning D S) (expl
 
       begun_way : IsOnWay end (after_begun next left all came) (settled next at.last (at.since ++ leads.between) (on_begun (to_schedule next left all) left all came))
       begun_way =
-          way_on room adds next tree (first_stand next explores max_threads max_steps body) p (begins_at (plain op) c) (after_begun next left all) came path end _ _ leads.between at.way e leads.passes leads.stands
+          way_on room adds next tree (first_stand next explores max_threads max_steps body) p NoMore (begins_at (plain op) c) (after_begun next left all) came path end _ at.way (begins_open (plain op) c) (λ h. h) e _ leads.between leads.passes leads.stands
 
       -- the path keeps its nodes
       pub stays_begun : StayThere path end
       stays_begun = (nodes_law {A = Begun D × Course D} room adds).stay (begins_at (plain op) c) path end came at.way.within e
+
+      -- and they are there later on
+      pub keeps_begun : BeginsWith path.nodes end.nodes
+      keeps_begun = (keeps room adds came end (begins_at (plain op) c) path at.way.within e).kept
 
     -- up to another turn
     pub turned_begun : (turn : Turn D) (v : Course D) (end : Trail) → drive (whole_search room) adds (begins_at (plain op) c) path ≡ (Ok (begun.Turn turn, v), end) → TurnIs end left all v turn
@@ -332,11 +382,14 @@ module _ {D S : Type 0} (room : ℕ) (adds : Marking) (next : Meaning D S) (expl
         → drive (whole_search room) adds (cut never [] tree) (at_start p) ≡ (Err kind, end)
     fails_on kind end e = way_fails room adds next tree (first_stand next explores max_threads max_steps body) p (schedule further_branches c) (onward next left bodies) kind path end _ at.way e
 
-    turned_so : (turn : Turn D) (v : Course D) (end : Trail) → drive (whole_search room) adds (schedule further_branches c) path ≡ (Ok (turn, v), end)
+    turned_so : (turn : Turn D) (v : Course D) (end : Trail) → (IsEnded turn → ⊥) → drive (whole_search room) adds (schedule further_branches c) path ≡ (Ok (turn, v), end)
         → TurnsOn next (record { bodies = bodies; course = c; more = further_branches; left = left }) path (turn, v) end
         → (last : Option (Moment D S)) × (since : List Choice) × IsOnWay end (onward next left bodies (turn, v)) (settled next last since (on_turn (to_schedule next left bodies) (turn, v)))
-    turned_so turn v end e on =
-        (on.last, on.since, way_on room adds next tree (first_stand next explores max_threads max_steps body) p (schedule further_branches c) (onward next left bodies) (turn, v) path end _ _ on.between at.way e on.passes on.stands)
+    turned_so turn v end is_open e on = (
+      on.last,
+      on.since,
+      way_on room adds next tree (first_stand next explores max_threads max_steps body) p HasEnded (schedule further_branches c) (onward next left bodies) (turn, v) path end _ at.way (schedule_open further_branches c) is_open e _ on.between on.passes on.stands,
+    )
 
     led_on : (turn : Turn D) (v : Course D) (end : Trail) → drive (whole_search room) adds (schedule further_branches c) path ≡ (Ok (turn, v), end) → IsLed v
     led_on turn v end e = schedule_along (whole_search room) adds path end c at.led further_branches turn v e
@@ -346,14 +399,22 @@ module _ {D S : Type 0} (room : ℕ) (adds : Marking) (next : Meaning D S) (expl
       where
         by : IsEnded {D = D} (turn.Reply t told) ⊎ TurnsOn next (record { bodies = bodies; course = c; more = further_branches; left = left }) path (turn.Reply t told, v) end → AtTurn end left bodies v t told
         by (inl h) = absurd h
-        by (inr on) = let z = turned_so (turn.Reply t told) v end e on in record { last = z.0; since = z.1; way = z.2; led = led_on (turn.Reply t told) v end e }
+        by (inr on) = let z = turned_so (turn.Reply t told) v end (λ h. h) e on in record { last = z.0; since = z.1; way = z.2; led = led_on (turn.Reply t told) v end e }
     turned_on (turn.Start t) v end e = by (schedule_law room adds next (record { bodies = bodies; course = c; more = further_branches; left = left }) path end (turn.Start t, v) at.way.within e)
       where
         by : IsEnded {D = D} (turn.Start t) ⊎ TurnsOn next (record { bodies = bodies; course = c; more = further_branches; left = left }) path (turn.Start t, v) end → AtTurn end left bodies v t reply.Start
         by (inl h) = absurd h
-        by (inr on) = let z = turned_so (turn.Start t) v end e on in record { last = z.0; since = z.1; way = z.2; led = led_on (turn.Start t) v end e }
+        by (inr on) = let z = turned_so (turn.Start t) v end (λ h. h) e on in record { last = z.0; since = z.1; way = z.2; led = led_on (turn.Start t) v end e }
     turned_on (turn.Ended value) v end e =
         way_ends room adds next tree (first_stand next explores max_threads max_steps body) p (schedule further_branches c) (onward next left bodies) (turn.Ended value, v) value path end _ at.way e refl
+
+    -- it is kept so
+    pub stood_there : StoodAt room adds next explores max_threads max_steps body (take path.position path.nodes) left bodies c
+    stood_there = record { last = at.last; since = at.since; stands = at.way.stands; led = at.led; leads = at.way.leads }
+
+    -- the path's nodes are there later on
+    pub keeps_on : (came : Turn D × Course D) (end : Trail) → drive (whole_search room) adds (schedule further_branches c) path ≡ (Ok came, end) → BeginsWith path.nodes end.nodes
+    keeps_on came end e = (keeps room adds came end (schedule further_branches c) path at.way.within e).kept
 
     -- the path keeps its nodes, and has one where it stood
     pub stays_on : (came : Turn D × Course D) (end : Trail) → drive (whole_search room) adds (schedule further_branches c) path ≡ (Ok came, end) → StayThere path end

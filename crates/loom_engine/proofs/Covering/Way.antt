@@ -1,5 +1,6 @@
 -- A path on its way through a tree that may be cut: what it comes to there is what the whole run comes to.
-use Rattle.std.proofs.Common.{◌≡◌, ◌≤◌, ℕ, arith, Bool, true, false, cond, List, [], ◌∷◌, ◌++◌, length, Option, Some, None, Result, Ok, Err, refl, ap, sym, ◌∙◌, subst, append-nil, append_assoc}
+use Rattle.std.proofs.Common.{◌≡◌, ◌≤◌, ◌⊎◌, ℕ, arith, Bool, true, false, cond, List, [], ◌∷◌, ◌++◌, length, take, Option, Some, None, Result, Ok, Err, refl, ap, sym, ◌∙◌, subst, inl, inr, append-nil, append_assoc}
+use Rattle.std.proofs.lemmas.List.{length-take-le}
 use Rattle.loom_views.specs.declared.rt.failure.FailureKind.{FailureKind}
 use Rattle.loom_views.specs.declared.rt.failure.FailureKind.TheVariants.{NotDeterministic}
 use Rattle.loom_objects.specs.declared.choice.Choice.{Choice}
@@ -10,15 +11,18 @@ use Rattle.loom_engine.specs.Walk.Path.{Stored}
 use Rattle.loom_engine.specs.Trees.Comparing.{same_choices}
 use Rattle.loom_engine.specs.Trees.Meeting.{Marking, whole_search}
 use Rattle.loom_engine.specs.Trees.Drive.{Answer, Trail, at_start, branch, drive, drive_on, is_used_up}
+use Rattle.loom_engine.specs.Trees.Retracing.{standing_at}
 use Rattle.loom_engine.specs.Runs.Body.{Meaning}
 use Rattle.loom_engine.specs.Covering.Cut.{cut, onward, passed}
 use Rattle.loom_engine.specs.Covering.Moments.{Stand, stand_after}
-use Rattle.loom_engine.specs.Covering.UnderWay.{IsOpen, Way, never}
+use Rattle.loom_engine.specs.Covering.UnderWay.{IsOpen, LeadsUncut, Way, never}
 use Rattle.loom_engine.proofs.Covering.Nodes.{nodes_law}
-use Rattle.loom_engine.proofs.Covering.Parts.{not_both, same_path}
+use Rattle.loom_engine.proofs.Covering.Parts.{ClosesGive, not_both, same_path}
+use Rattle.loom_engine.proofs.Covering.Retraced.{Cuts, cuts}
 use Rattle.loom_engine.proofs.Covering.Then.{GoesOn, Passes, answers_on, asked, cut_here, then_law}
 use Rattle.loom_engine.proofs.Covering.Turns.{stand_append}
 use Rattle.loom_engine.proofs.Trees.Binding.{drive_fails, drive_then}
+use Rattle.loom_engine.proofs.Trees.Retracing.{Keeps, begins_less, keeps}
 use Rattle.loom_engine.proofs.Walk.Lists.{not_longer}
 
 -- ---- tests of choices
@@ -140,21 +144,38 @@ module _ {R D S : Type 0} (room : ℕ) (adds : Marking) (next : Meaning D S) (tr
 
   -- it begins so
   pub way_begins : (stand : Stand D S) → first ≡ stand → IsWay (at_start p) tree stand
-  way_begins stand e = record { within = omega arith; cuts = λ stop open_. refl; stays = λ b n at. at; stands = e }
+  way_begins stand e = record { within = omega arith; cuts = λ stop open_. refl; leads = λ stop open_ q b. refl; stays = λ b n at. at; stands = e }
 
-  -- it goes through the first part of what is ahead
-  pub way_on : {A : Type 0} (t : Tree A) (f : A → Tree R) (a : A) (path after : Trail) (stand later : Stand D S) (between : List Choice) → IsWay path (t >>= f) stand
-      → drive (whole_search room) adds t path ≡ (Ok a, after) → passed after ≡ passed path ++ between → stand_after next stand between ≡ later → IsWay after (f a) later
-  way_on {A = A} t f a path after stand later between w e passes goes =
-      let r = through room adds a after t path w.within e in
-      record {
-        within = r.within;
-        cuts = λ stop open_.
-            w.cuts stop (open_sooner stop (passed path) r.between (passed after) r.passes open_)
-            ∙ then_law room adds stop t f path w.within ∙ ap (onward room adds stop f) (r.uncut stop open_);
-        stays = λ b n at. (nodes_law {A = A} room adds).stay t path after a w.within e b n (w.stays b n at);
-        stands = ap (stand_after next first) passes ∙ stand_append next first (passed path) between ∙ ap (λ (s : Stand D S). stand_after next s between) w.stands ∙ goes;
-      }
+  -- it goes through the first part of what is ahead, and the run hasn't ended
+  module _ {A : Type 0} (P : A → Type 0) (t : Tree A) (f : A → Tree R) (a : A) (path after : Trail) (stand : Stand D S) (w : IsWay path (t >>= f) stand) (closes : ClosesGive P t) (is_open : P a → ⊥)
+      (e : drive (whole_search room) adds t path ≡ (Ok a, after)) where
+    leads_on : LeadsUncut room adds tree (take after.position after.nodes) (f a)
+    leads_on stop open_ q b = by (cuts room adds stop P f a after t (passed path) path w.within refl closes e)
+      where
+        k : Keeps room adds a after path
+        k = keeps room adds a after t path w.within e
+
+        by : P a ⊎ Cuts room adds stop P f a after (passed path) t path
+            → drive (whole_search room) adds (cut stop [] tree) (standing_at 0 q) ≡ drive (whole_search room) adds (cut stop (passed after) (f a)) (standing_at (length (take after.position after.nodes)) q)
+        by (inl h) = absurd (is_open h)
+        by (inr r) =
+            w.leads stop (open_sooner stop (passed path) r.between (passed after) r.passes open_) q (begins_less path.position after.position path.nodes after.nodes q.nodes k.further k.kept b)
+            ∙ ap (λ (i : ℕ). drive (whole_search room) adds (cut stop (passed path) (t >>= f)) (standing_at i q)) (length-take-le path.position path.nodes w.within)
+            ∙ r.again open_ q b
+            ∙ ap (λ (i : ℕ). drive (whole_search room) adds (cut stop (passed after) (f a)) (standing_at i q)) (sym (length-take-le after.position after.nodes k.within))
+
+    pub way_on : (later : Stand D S) (between : List Choice) → passed after ≡ passed path ++ between → stand_after next stand between ≡ later → IsWay after (f a) later
+    way_on later between passes goes =
+        let r = through room adds a after t path w.within e in
+        record {
+          within = r.within;
+          cuts = λ stop open_.
+              w.cuts stop (open_sooner stop (passed path) r.between (passed after) r.passes open_)
+              ∙ then_law room adds stop t f path w.within ∙ ap (onward room adds stop f) (r.uncut stop open_);
+          leads = leads_on;
+          stays = λ b n at. (nodes_law {A = A} room adds).stay t path after a w.within e b n (w.stays b n at);
+          stands = ap (stand_after next first) passes ∙ stand_append next first (passed path) between ∙ ap (λ (s : Stand D S). stand_after next s between) w.stands ∙ goes;
+        }
 
   pub way_same : (path : Trail) (ahead same : Tree R) (stand alike : Stand D S) → IsWay path ahead stand → ahead ≡ same → stand ≡ alike → IsWay path same alike
   way_same path ahead same stand alike w e f = subst (λ (t : Tree R). IsWay path t alike) e (subst (λ (s : Stand D S). IsWay path ahead s) f w)

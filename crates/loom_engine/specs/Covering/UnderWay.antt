@@ -1,5 +1,5 @@
 -- A run of a body under way, that notes the states it comes to and is given up where one was noted.
-use Rattle.std.specs.Prelude.{ℕ, ◌≡◌, ◌<◌, ◌≤◌, ◌⊎◌, Bool, false, List, [], ◌∷◌, ◌++◌, length, map, slice_get, Option, Some, Result, Ok, Err}
+use Rattle.std.specs.Prelude.{ℕ, ◌≡◌, ◌<◌, ◌≤◌, ◌⊎◌, Bool, false, List, [], ◌∷◌, ◌++◌, length, map, slice_get, take, Option, Some, Result, Ok, Err}
 use Rattle.std.specs.List.{Contains}
 use Rattle.loom_views.specs.declared.rt.failure.FailureKind.{FailureKind}
 use Rattle.loom_views.specs.Laws.Moves.{Leads}
@@ -19,7 +19,8 @@ use Rattle.loom_engine.specs.Runs.Course.{Course}
 use Rattle.loom_engine.specs.Runs.Machine.{further_branches, schedule}
 use Rattle.loom_engine.specs.Trees.Meeting.{Marking, whole_search}
 use Rattle.loom_engine.specs.Trees.Drive.{Trail, at_start, drive}
-use Rattle.loom_engine.specs.Walk.Path.{Stored, node_at}
+use Rattle.loom_engine.specs.Trees.Retracing.{LeadsBy}
+use Rattle.loom_engine.specs.Walk.Path.{Stored, choices, node_at}
 use Rattle.loom_engine.specs.Covering.Between.{EndsAt}
 use Rattle.loom_engine.specs.Covering.Cut.{cut, passed}
 use Rattle.loom_engine.specs.Covering.Kept.{AreKeptAfter, GrowsFrom, Key, Noted}
@@ -42,13 +43,18 @@ pub record HasNode (p : List Stored) (c : List Choice) : Type 0 where
   pub node : Stored
   pub at : node_at p c ≡ Some node
 
+-- by these nodes the tree leads to what is ahead, where neither is cut on the way
+abbrev pub LeadsUncut : {R : Type 0} → ℕ → Marking → Tree R → List Stored → Tree R → Type 0
+LeadsUncut room adds tree front ahead = (stop : List Choice → Bool) → IsOpen stop (choices front) → LeadsBy (whole_search room) adds (cut stop [] tree) front (cut stop (choices front) ahead)
+
 module _ {R D S : Type 0} (room : ℕ) (adds : Marking) (next : Meaning D S) (tree : Tree R) (first : Stand D S) (p : List Stored) where
   -- A run along the path p has come this far, and this tree is ahead of it: what that comes to, with the path here, is what the whole
-  -- run comes to, if it wasn't cut before. It stands there.
+  -- run comes to, if it wasn't cut before; and by the nodes that it has passed the whole tree leads there. It stands there.
   pub record Way (path : Trail) (ahead : Tree R) (stand : Stand D S) : Type 0 where
     pub within : path.position ≤ length path.nodes
     pub cuts : (stop : List Choice → Bool) → IsOpen stop (passed path)
         → drive (whole_search room) adds (cut stop [] tree) (at_start p) ≡ drive (whole_search room) adds (cut stop (passed path) ahead) path
+    pub leads : LeadsUncut room adds tree (take path.position path.nodes) ahead
     pub stays : StayThere (at_start p) path
     pub stands : stand_after next first (passed path) ≡ stand
 
@@ -64,6 +70,14 @@ module _ {D S : Type 0} (next : Meaning D S) where
   -- what follows an operation that was begun
   abbrev pub after_begun : ℕ → List S → Begun D × Course D → Tree D
   after_begun left bodies came = goes_further came >>= onward left bodies
+
+-- A run of the body stood so after it had passed these nodes, at its operation's branch point.
+pub record StoodAt {D S : Type 0} (room : ℕ) (adds : Marking) (next : Meaning D S) (explores : Bool) (max_threads max_steps : ℕ) (body : S) (front : List Stored) (left : ℕ) (bodies : List S) (c : Course D) : Type 0 where
+  pub last : Option (Moment D S)
+  pub since : List Choice
+  pub stands : stand_after next (first_stand next explores max_threads max_steps body) (choices front) ≡ settled next last since (Gives (at_branch left bodies c))
+  pub led : IsLed c
+  pub leads : LeadsUncut room adds (runs next explores max_threads max_steps body) front (schedule further_branches c >>= onward next left bodies)
 
 module _ {D S : Type 0} (room : ℕ) (adds : Marking) (next : Meaning D S) (explores : Bool) (max_threads max_steps : ℕ) (body : S) (p : List Stored) (old : Noted D S) where
   -- the runs, and the state after choices
