@@ -22,6 +22,7 @@ pub mod Covering
 pub mod CoverDefaults
 pub mod CoverFrom
 pub mod CoverRounds
+pub mod CoverSnapshots
 pub mod CoverTexts
 pub mod CoverPartTexts
 pub mod CoverParts

@@ -28,6 +28,7 @@ pub mod Walking
 pub mod Within
 pub mod Cover
 pub mod CoverStores
+pub mod CoverSnapshots
 pub mod CoverText
 pub mod CoverPartText
 pub mod Covered

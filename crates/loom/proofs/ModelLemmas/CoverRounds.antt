@@ -10,6 +10,7 @@ use Rattle.loom_objects.specs.declared.choice.Choice.{Choice}
 use Rattle.loom_objects.specs.declared.failure.Failure.{Failure}
 use Rattle.loom_objects.specs.Tree.Tree.{Tree}
 use Rattle.loom_engine.specs.declared.rt.path.node.Node.{Node}
+use Rattle.loom_engine.specs.declared.rt.snapshots.Snapshot.{Snapshot}
 use Rattle.loom_engine.specs.Runs.Body.{Meaning, runs}
 use Rattle.loom_engine.specs.Trees.Drive.{Trail, at_end}
 use Rattle.loom_engine.specs.Trees.Machines.{IsMarking}
@@ -48,6 +49,7 @@ use Rattle.loom.specs.declared.model.cover.Covered.{Covered}
 use Rattle.loom.specs.declared.model.cover.Covered.TheVariants.{Complete, Livelock, Stopped, Failed}
 use Rattle.loom.specs.declared.model.cover.run.Ending.{Ending}
 use Rattle.loom.specs.declared.model.cover.run.Ending.TheVariants as end
+use Rattle.loom.specs.Model.CoverSnapshots.{AreLeft, AreLeftAfter}
 use Rattle.loom.specs.Model.Cover.{AreNoted, EndsWith, Leaves, Meets, Noting, noting}
 use Rattle.loom.specs.Model.Covered.{AllCanEnd, Claims, ClaimsTogether, Covering, CoveringAlone, FailsAlong, GoesOnLaw, HaveComeTo, IsCovered, IsHeld, IsPlaced, IsToldBy, NeverEnds, StopsBy, runs_in}
 use Rattle.loom.specs.Model.CoverStores.{HeldBack, IsCoverBegun, IsCoverKept, IsCoverSaved, IsNoBeginning, IsNoReport}
@@ -63,6 +65,7 @@ use Rattle.loom.specs.Model.Fresh.{Given}
 use Rattle.loom.specs.Model.Settings.{explores}
 use Rattle.loom.proofs.ModelLemmas.Checking.{given_more, one_longer, take_all}
 use Rattle.loom.proofs.ModelLemmas.CoverFrom.{LieOff, has_behind, lost_among, notes_off, notes_well, off_new, off_still, one_behind, with_table}
+use Rattle.loom.proofs.ModelLemmas.CoverSnapshots.{left_stepped}
 use Rattle.loom.proofs.ModelLemmas.CoverTexts.{same_stored}
 
 less_or_not : (a b : ℕ) → (a < b) ⊎ (b ≤ a)
@@ -220,6 +223,32 @@ module _ {V D S : Type 0} (b : Builder) (next : Meaning D S) (body : S) (takes :
     ran_alone path threads steps known noted ending after more e f rests none are h =
         ran_so path threads steps noted ending after more e f rests are
         (subst (λ (k : Noted D S). AreNoted next (noting threads steps body path (beside k noted)) → EndsWith next (noting threads steps body path (beside k noted)) ending after (beside k more)) none h)
+
+    -- and what is kept of runs may be gone on with after it
+    pub left_after : (path : Route) (threads steps : ℕ) (known noted : Noted D S) (ending : Ending D) (after : Route) (list : List (Snapshot D S)) → threads ≡ b.max_threads → steps ≡ b.max_steps
+        → path ≡ at_rest (whole_search b.max_branches) (explores b) path.nodes → known ≡ record { states = []; led_by = []; never = false } → AreKeptAfter (key noted.never) noted
+        → (AreNoted next (noting threads steps body path (beside known noted)) → AreLeftAfter next path.search.max_branches path.explores threads steps body ending after.nodes list)
+        → AreLeftAfter next b.max_branches (explores b) b.max_threads b.max_steps body ending after.nodes list
+    left_after path threads steps known noted ending after list e f rests none are h =
+        let same = same_noting path threads steps noted e f rests in
+        let left_alone : (AreNoted next (noting threads steps body path noted) → AreLeftAfter next path.search.max_branches path.explores threads steps body ending after.nodes list) =
+        subst (λ (k : Noted D S). AreNoted next (noting threads steps body path (beside k noted)) → AreLeftAfter next path.search.max_branches path.explores threads steps body ending after.nodes list) none h in
+        subst (λ (r : Noting D S). AreLeftAfter next r.room r.explores r.max_threads r.max_steps body ending after.nodes list) same (left_alone (subst (λ (r : Noting D S). AreNoted next r) (sym same) are))
+
+    -- before it they are those of its path
+    pub left_before : (path : Route) (threads steps : ℕ) (noted : Noted D S) (list : List (Snapshot D S)) → threads ≡ b.max_threads → steps ≡ b.max_steps → path ≡ at_rest (whole_search b.max_branches) (explores b) path.nodes
+        → AreLeft next b.max_branches (explores b) b.max_threads b.max_steps body path.nodes list → AreLeft next path.search.max_branches path.explores threads steps body path.nodes list
+    left_before path threads steps noted list e f rests h =
+        subst (λ (r : Noting D S). AreLeft next r.room r.explores r.max_threads r.max_steps body path.nodes list) (sym (same_noting path threads steps noted e f rests)) h
+
+    -- and at the next run
+    pub left_on : (ending : Ending D) (after later : Route) (list : List (Snapshot D S)) (stepped : Bool) → Steps after.nodes stepped later.nodes → stepped ≡ true → ((failure : Failure) → ending ≡ end.Failed failure → ⊥)
+        → AreLeftAfter next b.max_branches (explores b) b.max_threads b.max_steps body ending after.nodes list → AreLeft next b.max_branches (explores b) b.max_threads b.max_steps body later.nodes list
+    left_on (end.Ended value) after later list stepped steps is well h =
+        left_stepped next b.max_branches (explores b) b.max_threads b.max_steps body after.nodes later.nodes list (subst (λ (x : Bool). Steps after.nodes x later.nodes) is steps) h
+    left_on (end.Met number) after later list stepped steps is well h =
+        left_stepped next b.max_branches (explores b) b.max_threads b.max_steps body after.nodes later.nodes list (subst (λ (x : Bool). Steps after.nodes x later.nodes) is steps) h
+    left_on (end.Failed failure) after later list stepped steps is well h = absurd (well failure refl)
 
     -- ---- rounds
 

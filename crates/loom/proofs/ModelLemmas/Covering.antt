@@ -52,7 +52,7 @@ not_looked_up run bodies path old new same = record { views = run.state.scene.vi
 
 module _ {D S : Type 0} (next : Meaning D S) (run : Noting D S) where
   -- the path's search is the whole one
-  by_whole : {A : Type 0} (path : Route) (t : Tree A) (r : Result A FailureKind × Trail) → path.search ≡ whole_search run.room → drives t path ≡ r → drive (whole_search run.room) (marking None) t (trail path) ≡ r
+  pub by_whole : {A : Type 0} (path : Route) (t : Tree A) (r : Result A FailureKind × Trail) → path.search ≡ whole_search run.room → drives t path ≡ r → drive (whole_search run.room) (marking None) t (trail path) ≡ r
   by_whole path t r whole e = subst (λ (s : Settings). drive s (marking s.bound) t (trail path) ≡ r) whole e
 
   -- the course has as many operations left as the run
@@ -176,7 +176,7 @@ module _ {D S : Type 0} (next : Meaning D S) (run : Noting D S) where
   -- an operation was begun
   module _ (bodies : List S) (old new : ExecutionState D) (path after : Route) (op : Op D S) (noted : Noted D S) (going : old.over ≡ None) (same : after.search ≡ path.search) (todo : Request D ⊤)
       (asked : todo ≡ plain op) (h : IsHanding next run bodies old.run path op noted) where
-    begun_along : (result : Result (Begun D) Stop) → Begins old todo path result new after → Along (begins_at (plain op)) old.run path result new.run after
+    pub begun_along : (result : Result (Begun D) Stop) → Begins old todo path result new after → Along (begins_at (plain op)) old.run path result new.run after
     begun_along result event =
         subst (λ (r : Request D ⊤). Along (begins_at r) old.run path result new.run after) asked (subst (λ (over : Option Stop). BeginsAt over old todo path result new after) going event).0
 
@@ -199,7 +199,7 @@ module _ {D S : Type 0} (next : Meaning D S) (run : Noting D S) where
   -- a branch point was passed
   module _ (bodies : List S) (old new : ExecutionState D) (path after : Route) (noted more : Noted D S) (going : old.over ≡ None) (same : after.search ≡ path.search)
       (h : IsAtBranch next run bodies old.run path noted) where
-    scheduled_along : (result : Result (Turn D) Stop) → Schedules old path result new after → Along (schedule further_branches) old.run path result new.run after
+    pub scheduled_along : (result : Result (Turn D) Stop) → Schedules old path result new after → Along (schedule further_branches) old.run path result new.run after
     scheduled_along result event =
         (subst (λ (over : Option Stop). HappensAt over (schedule further_branches) (AllNeedMemory itself (schedule further_branches)) old path result new after) going event).0
 

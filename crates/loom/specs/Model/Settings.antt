@@ -48,6 +48,7 @@ defaults = record {
   checkpoint_file = None;
   checkpoint_interval = 20000;
   expect_explicit_explore = false;
+  snapshots = false;
   location = false;
   log = false;
   recorded = false;

@@ -35,6 +35,10 @@ pub struct Builder {
     pub checkpoint_interval: usize,
     /// Whether a run explores only from the operation `explore` on. At nodes before that it takes the default alone.
     pub expect_explicit_explore: bool,
+    /// Whether a run of a covering check goes on from a copy of where an earlier one stood, if the choices up to there are the same, and
+    /// isn't made from its beginning. The check finds the same. The copies are those of one path, 100 at most. A check by several workers,
+    /// and one of a part, makes none (own).
+    pub snapshots: bool,
     /// Whether a failure has the place of its operation.
     pub location: bool,
     /// Whether it is logged which thread goes on.
@@ -69,6 +73,7 @@ impl Builder {
             checkpoint_file: None,
             checkpoint_interval: 20_000,
             expect_explicit_explore: false,
+            snapshots: false,
             location: false,
             log: false,
             recorded: false,

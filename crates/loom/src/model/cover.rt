@@ -171,6 +171,7 @@ impl Builder {
     {
         self.test()?;
         let mut room = Room::new(alloc, self.limits())?;
+        room.snapshots.allow(self.most_snapshots());
         let known = States::none(alloc, false);
         let mut states = States::new(alloc, most_states, body.never_switches())?;
         let covered = self.cover_rounds::<B, Choices, R, C, S, L>(
@@ -217,6 +218,7 @@ impl Builder {
         requires unknown { known.now ≡ record { states = []; led_by = []; never = false } }
         requires none { states.old ≡ record { states = []; led_by = []; never = states.old.never } }
         requires known { IsKnown states.old.never B.next body.now }
+        requires anew { room.old.snapshots ≡ [] }
         ensures covers { IfOk result (Covering R.receives receiver.old receiver.new self.now B.next body.now (S.gives store.old) (S.holds store.new) (C.answered clock.new)) }
         ensures errors { IfErr result (IsNoReport self.now (S.gives store.old) (receiver.new ≡ receiver.old)) }
         ensures left { OnErr result (StillHolds self.now B.next body.now (S.gives store.old) (S.holds store.old) (S.holds store.new)) }

@@ -93,6 +93,7 @@ impl Builder {
             checkpoint_file: None,
             checkpoint_interval: self.checkpoint_interval,
             expect_explicit_explore: self.expect_explicit_explore,
+            snapshots: self.snapshots,
             location: self.location,
             log: self.log,
             recorded: self.recorded,

@@ -2,6 +2,7 @@
 //! submitted, until the run ends or fails. Its contract is the run of the body's tree of `loom_engine`, and its events are those of
 //! the body's story. Each run of a check, each replay and each explanation is made by it.
 pub(crate) mod drawing;
+pub(crate) mod snapshots;
 
 ghost use Rattle.std.specs.Prelude.{◌≡◌, ◌≢◌, ◌≤◌, ◌+◌, ◌∷◌, Bool, [], None, Err, OnOk, OnErr, IfOk};
 ghost use Rattle.loom_objects.specs.Operation.Plain.{plain, started};
@@ -17,6 +18,7 @@ ghost use Rattle.loom.specs.Model.Turns.{IsHeardAs, IsUnderWay};
 use crate::model::listener::Listener;
 use loom_engine::rt::execution::{Execution, Limits};
 use loom_engine::rt::path::Path;
+use loom_engine::rt::snapshots::Snapshots;
 use loom_objects::body::Body;
 use loom_objects::failure::{Failure, Stop, failed};
 use loom_objects::operation::{Op, Reply, Turn};
@@ -38,6 +40,8 @@ pub struct Room<B: Body> {
     pub bodies: Vec<B>,
     /// What they work on.
     pub execution: Execution<B::Data>,
+    /// Earlier runs where they stood, if the check keeps any.
+    pub snapshots: Snapshots<B::Data, B>,
 }
 
 impl<B: Body> Room<B> {
@@ -48,10 +52,12 @@ impl<B: Body> Room<B> {
         ensures empty { IfOk result (λ room. room.bodies.items ≡ []) }
         ensures opens { IfOk result (λ room. (explores : Bool) (path : Route) → IsAtStart explores path → ShowsCourse (opening explores limits.max_threads limits.max_steps) room.execution.run path) }
         ensures over { IfOk result (λ room. room.execution.over ≡ None) }
+        ensures none { IfOk result (λ room. room.snapshots ≡ []) }
     {
         Ok(Room {
             bodies: Vec::new(alloc),
             execution: Execution::new(alloc, limits)?,
+            snapshots: Snapshots::new(alloc),
         })
     }
 

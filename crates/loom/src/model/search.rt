@@ -26,6 +26,7 @@ use crate::model::saving::{Pace, save_and_run, stop};
 use log::Log;
 use loom_engine::rt::execution::Limits;
 use loom_engine::rt::path::Path;
+use loom_engine::rt::snapshots::MOST_SNAPSHOTS;
 use loom_objects::body::Body;
 use loom_objects::failure::Failure;
 use std::alloc::{AllocError, Global};
@@ -119,6 +120,11 @@ impl Builder {
         let ending = self.run(&mut room, body, path);
         room.leave();
         ending
+    }
+
+    /// How many runs are kept at most where they stood.
+    pub(crate) fn most_snapshots(&self) -> usize {
+        if self.snapshots { MOST_SNAPSHOTS } else { 0 }
     }
 
     /// How much a run may use.

@@ -233,6 +233,7 @@ impl Builder {
         ensures goes { IfOk result (GoesOn V.takes visitor.old visitor.new self.now B.next body.now known.now states.old states.new floor path.old path.new) }
         ensures errors { IfErr result (λ e. e ≡ CheckError.Memory) }
     {
+        room.snapshots.clear();
         match run(room, self.limits(), body, path, known, states)? {
             Ending::Ended(value) => {
                 visitor.run_along(alloc, path, value)?;

@@ -1,15 +1,18 @@
 //! One run of a search that remembers states, along its path. Where an operation comes to its first branch point past the path's
-//! nodes, and the run explores there, its state is looked up: if it was noted the run is given up, and otherwise it is noted.
-ghost use Rattle.std.specs.Prelude.{◌≡◌, ◌≤◌, ◌+◌, [], None, IfOk, OnOk};
+//! nodes, and the run explores there, its state is looked up: if it was noted the run is given up, and otherwise it is noted. Where
+//! runs are kept it goes on from the last one whose choices are those of its path.
+ghost use Rattle.std.specs.Prelude.{◌≡◌, ◌≤◌, ◌+◌, ◌⊎◌, [], None, IfOk, OnOk};
 ghost use Rattle.loom_engine.specs.Covering.Kept.{beside};
 ghost use Rattle.loom_engine.specs.Path.Route.{IsAtStart, IsSameSearch};
 ghost use Rattle.loom_engine.specs.Trees.Meeting.{whole_search};
-ghost use Rattle.loom_objects.specs.declared.operation.Reply.TheVariants.{Start};
-ghost use Rattle.loom.specs.Model.Cover.{AreNoted, ComesTo, EndsWith, IsEndBy, IsEndOf, IsHanding, IsUnderWay, LooksUpRun, Noting, Passes, StaysOpen, noting};
+ghost use Rattle.loom.specs.Model.Cover.{AreNoted, ComesTo, EndsWith, IsAtBranch, IsEndBy, IsEndOf, IsHanding, IsUnderWay, LooksUpRun, Noting, Passes, StaysOpen, noting};
+ghost use Rattle.loom.specs.Model.CoverSnapshots.{AreKeptAfter, AreKeptBy, AreKeptIn, AreLeft, AreLeftAfter};
 
-use crate::model::run::{Room, add_child};
+use crate::model::run::snapshots::keep;
+use crate::model::run::{Room, add_child, begin};
 use loom_engine::rt::execution::{Begun, Execution, Limits};
 use loom_engine::rt::path::Path;
+use loom_engine::rt::snapshots::Snapshots;
 use loom_engine::rt::states::States;
 use loom_objects::body::Body;
 use loom_objects::data::Data;
@@ -46,8 +49,9 @@ pub enum Found {
     New,
 }
 
-/// One run of the body along the path, from its start, with the states that are known and these, among which new ones are noted. The
-/// number of a state counts those that are known first. An error only where a growth was refused, in the run, the body or for a state.
+/// One run of the body along the path, from its start or from where an earlier run along a path that began so stood, with the states that
+/// are known and these, among which new ones are noted. The number of a state counts those that are known first. An error only where a
+/// growth was refused, in the run, the body, for a state or for what is kept.
 pub(crate) fn run<B: Body + Same>(
     room: &mut Room<B>,
     limits: Limits,
@@ -63,20 +67,46 @@ where
     requires starts { IsAtStart path.old.explores path.old }
     requires unguided { path.old.given ≡ [] }
     requires whole { path.old.search ≡ whole_search path.old.search.max_branches }
+    requires left { AreLeft B.next path.old.search.max_branches path.old.explores limits.max_threads limits.max_steps body.now path.old.nodes room.old.snapshots }
     ensures along { AreNoted B.next (noting limits.max_threads limits.max_steps body.now path.old (beside known.now states.old))
         → IfOk result (λ ending. EndsWith B.next (noting limits.max_threads limits.max_steps body.now path.old (beside known.now states.old)) ending path.new (beside known.now states.new)) }
+    ensures left { AreNoted B.next (noting limits.max_threads limits.max_steps body.now path.old (beside known.now states.old))
+        → IfOk result (λ ending. AreLeftAfter B.next path.old.search.max_branches path.old.explores limits.max_threads limits.max_steps body.now ending path.new.nodes room.new.snapshots) }
     ensures same { IsSameSearch path.old path.new }
 {
-    room.bodies.clear();
-    room.bodies.push(body.try_clone()?)?;
+    room.snapshots.keep_before(path.node_count());
+    let is_on = room
+        .snapshots
+        .go_on(&mut room.execution, &mut room.bodies, path)?;
+    if is_on {
+        return from_snapshot(
+            &mut room.execution,
+            &mut room.bodies,
+            &mut room.snapshots,
+            path,
+            known,
+            states,
+        );
+    }
+    begin(&mut room.bodies, body)?;
     room.execution.restart(limits)?;
-    take_turns(&mut room.execution, &mut room.bodies, path, known, states)
+    take_turns(
+        &mut room.execution,
+        &mut room.bodies,
+        &mut room.snapshots,
+        path,
+        known,
+        states,
+        0,
+        Reply::Start,
+    )
 }
 
-/// From its start the run goes on by turns, until it ends, fails or is given up. An error only where a growth was refused.
-fn take_turns<B: Body + Same>(
+/// From the branch point at which it stands the run goes on, until it ends, fails or is given up.
+fn from_snapshot<B: Body + Same>(
     execution: &mut Execution<B::Data>,
     bodies: &mut Vec<B>,
+    snapshots: &mut Snapshots<B::Data, B>,
     path: &mut Path,
     known: &States<B::Data, B>,
     states: &mut States<B::Data, B>,
@@ -84,11 +114,53 @@ fn take_turns<B: Body + Same>(
 where
     B::Data: Same,
     requires { execution.old.over ≡ None }
-    ensures along { (run : Noting B.Data B) → IsUnderWay B.next run bodies.old.items execution.old.run path.old 0 Start (beside known.now states.old) → IfOk result (λ ending. EndsWith B.next run ending path.new (beside known.now states.new)) }
+    ensures along { (run : Noting B.Data B) → IsAtBranch B.next run bodies.old.items execution.old.run path.old (beside known.now states.old) → IfOk result (λ ending. EndsWith B.next run ending path.new (beside known.now states.new)) }
+    ensures kept { (run : Noting B.Data B) → IsAtBranch B.next run bodies.old.items execution.old.run path.old (beside known.now states.old) → AreKeptIn B.next run path.old.nodes snapshots.old
+        → IfOk result (λ ending. AreKeptAfter B.next run ending path.new.nodes snapshots.new) }
     ensures same { IsSameSearch path.old path.new }
 {
-    let mut thread = 0u8;
-    let mut reply = Reply::Start;
+    match execution.schedule(path) {
+        Ok(Turn::Reply(thread, told)) => {
+            take_turns(
+                execution, bodies, snapshots, path, known, states, thread, told,
+            )
+        }
+        Ok(Turn::Start(thread)) => take_turns(
+            execution,
+            bodies,
+            snapshots,
+            path,
+            known,
+            states,
+            thread,
+            Reply::Start,
+        ),
+        Ok(turn) => ended(Ok(turn)),
+        Err(stop) => stopped(stop),
+    }
+}
+
+/// From this turn the run goes on, until it ends, fails or is given up. An error only where a growth was refused.
+fn take_turns<B: Body + Same>(
+    execution: &mut Execution<B::Data>,
+    bodies: &mut Vec<B>,
+    snapshots: &mut Snapshots<B::Data, B>,
+    path: &mut Path,
+    known: &States<B::Data, B>,
+    states: &mut States<B::Data, B>,
+    first_thread: u8,
+    first_reply: Reply<B::Data>,
+) -> Result<Ending<B::Data>, AllocError>
+where
+    B::Data: Same,
+    requires { execution.old.over ≡ None }
+    ensures along { (run : Noting B.Data B) → IsUnderWay B.next run bodies.old.items execution.old.run path.old first_thread first_reply (beside known.now states.old) → IfOk result (λ ending. EndsWith B.next run ending path.new (beside known.now states.new)) }
+    ensures kept { (run : Noting B.Data B) → IsUnderWay B.next run bodies.old.items execution.old.run path.old first_thread first_reply (beside known.now states.old) → AreKeptIn B.next run path.old.nodes snapshots.old
+        → IfOk result (λ ending. AreKeptAfter B.next run ending path.new.nodes snapshots.new) }
+    ensures same { IsSameSearch path.old path.new }
+{
+    let mut thread = first_thread;
+    let mut reply = first_reply;
     'turns: loop {
         let place = thread as usize;
         if place >= bodies.len() {
@@ -97,7 +169,7 @@ where
         }
         let body = &mut bodies[place];
         let op = body.resume(reply)?;
-        match submit(execution, bodies, path, known, states, op) {
+        match submit(execution, bodies, snapshots, path, known, states, op) {
             Ok(Turn::Reply(next, told)) => {
                 thread = next;
                 reply = told;
@@ -137,6 +209,7 @@ fn stopped<D>(stop: Stop) -> Result<Ending<D>, AllocError>
 fn submit<B: Body + Same>(
     execution: &mut Execution<B::Data>,
     bodies: &mut Vec<B>,
+    snapshots: &mut Snapshots<B::Data, B>,
     path: &mut Path,
     known: &States<B::Data, B>,
     states: &mut States<B::Data, B>,
@@ -146,6 +219,7 @@ where
     B::Data: Same,
     requires { execution.old.over ≡ None }
     ensures event { (run : Noting B.Data B) → IsHanding B.next run bodies.old.items execution.old.run path.old op (beside known.now states.old) → ComesTo B.next run result bodies.new.items execution.new.run path.new (beside known.now states.new) }
+    ensures kept { (run : Noting B.Data B) → IsHanding B.next run bodies.old.items execution.old.run path.old op (beside known.now states.old) → AreKeptIn B.next run path.old.nodes snapshots.old → AreKeptBy B.next run result path.new.nodes snapshots.new }
     ensures open { StaysOpen result execution.new.over }
     ensures steps { OnOk result (execution.old.run.state.steps_left ≡ execution.new.run.state.steps_left + 1) }
     ensures same { IsSameSearch path.old path.new }
@@ -159,7 +233,40 @@ where
         Ok(()) => match execution.begin(path, request) {
             Err(stop) => Err(Halt::Stopped(stop)),
             Ok(Begun::Turn(turn)) => Ok(turn),
-            Ok(Begun::AtBranch) => pass(execution, bodies.as_slice(), path, known, states),
+            Ok(Begun::AtBranch) => {
+                keep_and_pass(execution, bodies.as_slice(), snapshots, path, known, states)
+            }
+        },
+    }
+}
+
+/// The branch point is passed, as `pass` does. Where the run isn't given up it is kept before its schedule, if something is left there.
+fn keep_and_pass<B: Body + Same>(
+    execution: &mut Execution<B::Data>,
+    bodies: &[B],
+    snapshots: &mut Snapshots<B::Data, B>,
+    path: &mut Path,
+    known: &States<B::Data, B>,
+    states: &mut States<B::Data, B>,
+) -> Result<Turn<B::Data>, Halt>
+where
+    B::Data: Same,
+    requires { execution.old.over ≡ None }
+    ensures event { Passes bodies.now execution.old path.old (beside known.now states.old) result execution.new path.new (beside known.now states.new) }
+    ensures kept { (run : Noting B.Data B) → IsAtBranch B.next run bodies.now execution.old.run path.old (beside known.now states.old) → AreKeptIn B.next run path.old.nodes snapshots.old → AreKeptBy B.next run result path.new.nodes snapshots.new }
+    ensures open { StaysOpen result execution.new.over }
+    ensures steps { execution.new.run.state.steps_left ≡ execution.old.run.state.steps_left }
+    ensures same { IsSameSearch path.old path.new }
+{
+    match look_up(execution, bodies, path, known, states) {
+        Err(_) => Err(Halt::Stopped(Stop::Memory)),
+        Ok(Found::Known(number)) => Err(Halt::Met(number)),
+        Ok(Found::New) => match keep(execution, bodies, snapshots, path) {
+            Err(_) => Err(Halt::Stopped(Stop::Memory)),
+            Ok(()) => match execution.schedule(path) {
+                Err(stop) => Err(Halt::Stopped(stop)),
+                Ok(turn) => Ok(turn),
+            },
         },
     }
 }

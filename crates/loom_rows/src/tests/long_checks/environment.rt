@@ -71,7 +71,7 @@ fn other_texts_are_no_numbers(rt: &(impl Abort + AllocGlobal)) {
 
 // The settings where no variable is set.
 const SETTINGS: &str =
-    "Builder { max_threads: 5, max_branches: 1000, max_steps: 1000000, max_permutations: None, max_duration: None, max_different: None, reduce: true, preemption_bound: None, checkpoint_file: None, checkpoint_interval: 20000, expect_explicit_explore: false, location: false, log: false, recorded: false }\n";
+    "Builder { max_threads: 5, max_branches: 1000, max_steps: 1000000, max_permutations: None, max_duration: None, max_different: None, reduce: true, preemption_bound: None, checkpoint_file: None, checkpoint_interval: 20000, expect_explicit_explore: false, snapshots: false, location: false, log: false, recorded: false }\n";
 
 // Which variable is set, to which text, and which part of the settings reads how then. There is no variable 8.
 static VARIABLES: [(usize, &str, &str, &str); 13] = [

@@ -3,8 +3,12 @@ use Rattle.loom_objects.specs.Exploring.{initially}
 use Rattle.loom_engine.specs.Covering.Between.{AddsRun, IsReady, IsWhole}
 use Rattle.loom_engine.specs.Path.Route.{Route, chosen}
 use Rattle.loom_engine.specs.Trees.Meeting.{whole_search}
+use Rattle.loom_objects.specs.declared.failure.Failure.{Failure}
+use Rattle.loom.specs.declared.model.cover.run.Ending.TheVariants as end
 use Rattle.loom.specs.Model.Covered.{IsToldBy}
-use Rattle.loom.proofs.ModelLemmas.CoverRounds.{HasAdded, HasRun, checking_fails, checking_kept, checking_left, checking_starts, checking_stops, left_late, no_cover_beginning, ran_alone, run_ended, run_met}
+use Rattle.loom.specs.Model.Settings.{explores}
+use Rattle.loom.proofs.ModelLemmas.CoverRounds.{HasAdded, HasRun, checking_fails, checking_kept, checking_left, checking_starts, checking_stops, left_after, left_before, left_late, left_on, no_cover_beginning, ran_alone, run_ended, run_met}
+use Rattle.loom.proofs.ModelLemmas.CoverSnapshots.{none_left}
 use Rattle.loom.proofs.ModelLemmas.Errors.{on_error, uncounted}
 use Rattle.loom.proofs.model.builder.Builder.cover_rounds.Goals.{in-Ended+in_ok-receive-in-Ended, in-Met}
 use Rattle.loom.proofs.model.builder.Builder.cover_rounds.Goals as goal
@@ -21,6 +25,7 @@ loop-limit-init g c = record {
   checking =
       checking_starts c.args.self.now g.B.Body.next c.args.body.now g.R.Receiver.receives c.args.receiver.now (g.S.CheckpointStore.gives c.args.store.now) (g.S.CheckpointStore.holds c.begin_cover.new.store) c.in_ok-path.path
       c.args.states.now c.new-ways.result c.in_ok-path.ensures.begun c.args.states.now.never c.requires.none c.requires.known c.new-ways.ensures;
+  left = none_left g.B.Body.next c.args.self.now.max_branches (explores c.args.self.now) c.args.self.now.max_threads c.args.self.now.max_steps c.args.body.now c.in_ok-path.path.nodes c.args.room.now.snapshots c.requires.anew;
   faultless = uncounted c.begin_cover.result c.in_ok-path.path _ _ c.in_ok-path.was c.begin_cover.ensures.faults;
 }
 
@@ -36,6 +41,12 @@ pub run-requires-clause-whole : goal.run-requires-clause-whole
 run-requires-clause-whole g c =
     let rests = c.loop-limit.invariant.checking.covering.rests in
     ap (λ (r : Route). r.search) rests ∙ sym (ap (λ (r : Route). whole_search r.search.max_branches) rests)
+
+pub run-requires-clause-left : goal.run-requires-clause-left
+run-requires-clause-left g c =
+    let z = c.loop-limit.invariant in
+    left_before c.args.self.now g.B.Body.next c.args.body.now g.R.Receiver.receives c.args.receiver.now z.checking.start c.loop-limit.path c.limits.result.max_threads c.limits.result.max_steps c.loop-limit.states c.loop-limit.room.snapshots
+    c.limits.ensures.threads c.limits.ensures.steps z.checking.covering.rests z.left
 
 pub returns-in-Some-clause-covers : goal.returns-in-Some-clause-covers
 returns-in-Some-clause-covers g c =
@@ -224,10 +235,17 @@ loop-limit-preserved g c =
       | in-Ended+in_ok-receive-in-Ended w ↦ omega (arith, fits, w.runs-is, w.met-is)
       | in-Met w ↦ omega (arith, fits, w.runs-is, w.met-is)
     ] in
+    let well : (failure : Failure) → came ≡ end.Failed failure → ⊥ = λ failure is. elim c.match-branch-5.branch [
+      | in-Ended+in_ok-receive-in-Ended w ↦ cc (w.in-Ended.is, is)
+      | in-Met w ↦ cc (w.in-Met.is, is)
+    ] in
     record {
       most = kept.0 + 1;
       few = omega (arith, kept.2);
       within = within;
       checking = has.on c.step.new.self c.step.result c.step.ensures.steps (search rules) c.step.ensures.rest c.run.ensures.same;
+      left = left_on b g.B.Body.next c.args.body.now g.R.Receiver.receives c.args.receiver.now here.start came after c.step.new.self c.run.new.room.snapshots c.step.result c.step.ensures.steps (search rules) well
+          (left_after b g.B.Body.next c.args.body.now g.R.Receiver.receives c.args.receiver.now here.start path c.limits.result.max_threads c.limits.result.max_steps c.args.known.now noted came after c.run.new.room.snapshots c.limits.ensures.threads
+          c.limits.ensures.steps here.covering.rests c.requires.unknown here.covering.explained c.in_ok-value.ensures.left);
       faultless = c.in_ok-until_save.ensures.faults ∙ z.faultless;
     }

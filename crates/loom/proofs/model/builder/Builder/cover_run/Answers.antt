@@ -3,6 +3,7 @@ use Rattle.loom_objects.specs.Exploring.{initially}
 use Rattle.loom_engine.specs.Path.Route.{Route}
 use Rattle.loom_engine.specs.Trees.Meeting.{whole_search}
 use Rattle.loom.proofs.ModelLemmas.CoverParts.{ended_goes, failed_goes, met_goes}
+use Rattle.loom.proofs.ModelLemmas.CoverSnapshots.{none_left}
 use Rattle.loom.proofs.model.builder.Builder.cover_run.Goals as goal
 
 pub run-requires-clause-starts : goal.run-requires-clause-starts
@@ -17,6 +18,11 @@ pub run-requires-clause-whole : goal.run-requires-clause-whole
 run-requires-clause-whole g c =
     let rests = c.requires.starts in
     ap (λ (r : Route). r.search) rests ∙ sym (ap (λ (r : Route). whole_search r.search.max_branches) rests)
+
+pub run-requires-clause-left : goal.run-requires-clause-left
+run-requires-clause-left g c =
+    let path = c.args.path.now in
+    none_left g.B.Body.next path.search.max_branches path.explores c.limits.result.max_threads c.limits.result.max_steps c.args.body.now path.nodes c.clear.new.self c.clear.ensures
 
 pub returns-in_ok-run_along-in-Ended-clause-goes : goal.returns-in_ok-run_along-in-Ended-clause-goes
 returns-in_ok-run_along-in-Ended-clause-goes g c =
