@@ -10,4 +10,6 @@ mod first;
 #[cfg(test)]
 mod guide;
 #[cfg(test)]
+mod snapshots;
+#[cfg(test)]
 mod walks;
