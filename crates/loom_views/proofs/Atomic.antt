@@ -7,6 +7,7 @@ pub mod Orders
 pub mod Reaching
 pub mod Reads
 pub mod Rows
+pub mod Seeing
 pub mod Shown
 pub mod SlotNumbers
 pub mod SlotSets

@@ -1,5 +1,6 @@
 -- A word of 128 bits as eight lanes of 16 bits: lane t is the bits 16 t to 16 t + 15.
 use Rattle.std.specs.Prelude.{ℕ, ◌≡◌, ◌+◌, ◌*◌, ◌/◌, ◌%◌, ◌^◌, ◌<◌, ◌≤◌, List, [], ◌∷◌, slice_index}
+use Rattle.std.specs.Int.RustNames.{bit_xor}
 use Rattle.std.proofs.Common.{arith}
 
 -- the number in lane t
@@ -36,3 +37,7 @@ pub record IsFirstLarger (word other t : ℕ) : Type 0 where
 -- in each lane the other word has the larger number
 abbrev pub AreLarger : ℕ → ℕ → Type 0
 AreLarger word other = (t : ℕ) → t < 8 → lane word t < lane other t
+
+-- a number of 64 bits that depends on a word alone
+abbrev pub word_digest : ℕ → ℕ
+word_digest word = bit_xor (word % 2 ^ 64) (word / 2 ^ 64 * 15485907386658061715 % 2 ^ 64)

@@ -67,7 +67,7 @@ places-from_ahead None b vs ws h e = (λ _ t l. within-at vs ws t h, λ _. not-f
 places-from_ahead (Some t) b vs ws h e = (λ y. absurd (true≢false (sym y ∙ not-true b (sym e))), λ all. let below = all t h.is_thread in let above = h.larger in absurd (omega arith))
 
 -- vectors that are inside each other are the same
-same-places : (vs ws : List ℕ) → length vs ≡ length ws → within vs ws ≡ true → within ws vs ≡ true → vs ≡ ws
+pub same-places : (vs ws : List ℕ) → length vs ≡ length ws → within vs ws ≡ true → within ws vs ≡ true → vs ≡ ws
 same-places [] [] e a b = refl
 same-places [] (w ∷ ws) e a b = absurd (omega arith)
 same-places (v ∷ vs) [] e a b = absurd (omega arith)

@@ -1,5 +1,5 @@
 -- What is kept of an atomic, in vectors.
-use Rattle.std.specs.Prelude.{ℕ, ◌+◌, ◌%◌, Bool, true, false, not, ◌&&◌, ◌||◌, ◌==◌, nat_le, if◌then◌else◌, List, [], ◌∷◌, map, slice_index, slice_index_or, slice_set, Option, Some, None, is_some, Result, Ok, Err, nat_lt}
+use Rattle.std.specs.Prelude.{ℕ, ◌≡◌, ◌<◌, ◌+◌, ◌%◌, Bool, true, false, not, ◌&&◌, ◌||◌, ◌==◌, nat_le, if◌then◌else◌, List, [], ◌∷◌, map, slice_index, slice_index_or, slice_set, Option, Some, None, is_some, Result, Ok, Err, nat_lt}
 use Rattle.std.specs.List.{list_all}
 use Rattle.loom_views.specs.Atomic.Touches.{untouched}
 use Rattle.loom_views.specs.declared.rt.failure.FailureKind.{FailureKind}
@@ -68,6 +68,18 @@ readable_now state t views reader = readable_slots (drops_slot state t views rea
 -- the stores in two slots have equal orders
 abbrev pub is_same_slot : State → ℕ → ℕ → Bool
 is_same_slot state i j = is_order_same (store_at state.stores i) (store_at state.stores j)
+
+-- no two slots have stores of equal orders
+abbrev pub HaveOtherOrders : State → Type 0
+HaveOtherOrders state = (i j : ℕ) → i < 7 → j < 7 → (not (i == j) && is_same_slot state i j) ≡ false
+
+-- the store in slot j is above the one in slot i
+abbrev pub is_slot_below : List Store → ℕ → ℕ → Bool
+is_slot_below stores i j = is_order_below (store_at stores i) (store_at stores j)
+
+-- and it is seen in a view
+abbrev pub is_below_seen : List Store → List ℕ → ℕ → ℕ → Bool
+is_below_seen stores view i j = is_slot_below stores i j && is_touch_in (store_at stores j).first_seen.versions view
 
 -- the choice fails, since two orders are equal on the way
 abbrev pub fails_now : State → ℕ → ThreadViews → Reader → Bool

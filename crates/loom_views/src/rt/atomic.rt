@@ -10,13 +10,14 @@ ghost use Rattle.std.specs.Prelude.{◌≡◌, ℕ, ◌+◌, ◌-◌, ◌<◌, �
 ghost use Rattle.std.specs.List.{list_any};
 ghost use Rattle.loom_views.specs.InOrder.{PairAll, PairsTouches, PairsStores, PairsStates, Ranked};
 ghost use Rattle.loom_views.specs.Limits.{highest_version, most_stores};
+ghost use Rattle.loom_views.specs.Orderings.{is_seq_cst};
 ghost use Rattle.loom_views.specs.Packed.{empty_store, whole};
 ghost use Rattle.loom_views.specs.declared.rt.atomic.Store.{Store};
 ghost use Rattle.loom_views.specs.Versions.{join, join_all};
 ghost use Rattle.loom_views.specs.Atomic.Touches.{untouched};
 ghost use Rattle.loom_views.specs.declared.rt.failure.FailureKind.TheVariants.{OrdersEqual, TooManyStores};
-ghost use Rattle.loom_views.specs.Atomic.Slots.{slots, slot_set, has_equal_order_at};
-ghost use Rattle.loom_views.specs.Atomic.Ring.{is_touch_in, is_version_before, touch_version, store_at, is_passed, drops_slot, is_same_slot, readable_now, fails_now, is_order_seen, orders_seen, is_slot_above, raised_above, state_read, state_made, load_tracked, store_tracked, unsync_load_tracked, unsync_mut_tracked, load_now, store_now, update_read_now, update_write_now, newest_slot, unsync_load_now, mutate_now, mutate_end_now, state_blank};
+ghost use Rattle.loom_views.specs.Atomic.Slots.{slots, slot_set, has_equal_order_at, readable_slots};
+ghost use Rattle.loom_views.specs.Atomic.Ring.{HaveOtherOrders, is_order_below, is_slot_below, is_below_seen, drops_store, is_touch_in, is_version_before, touch_version, store_at, is_passed, drops_slot, is_same_slot, readable_now, fails_now, is_order_seen, orders_seen, is_slot_above, raised_above, state_read, state_made, load_tracked, store_tracked, unsync_load_tracked, unsync_mut_tracked, load_now, store_now, update_read_now, update_write_now, newest_slot, unsync_load_now, mutate_now, mutate_end_now, state_blank};
 ghost use Rattle.loom_views.specs.Graph.{Graph, IsChained, IsPresent};
 ghost use Rattle.loom_views.specs.ThreadViews.{ThreadPoints, ShowsThread};
 ghost use Rattle.loom_views.specs.Atomic.Fences.{standing_in, scene_at, after_store, acquire_fence_step};
@@ -102,6 +103,23 @@ impl FirstSeen {
             (Some(version), Some(at)) => version <= at,
             _ => false,
         }
+    }
+}
+
+fn is_seq_cst(order: Ordering) -> bool
+    ensures { result ≡ is_seq_cst order }
+{
+    matches!(order, Ordering::SeqCst)
+}
+
+/// Whether a store keeps the reader from those below it just where it is seen: the reader is a load that isn't `SeqCst`, of a thread
+/// that hasn't yielded.
+fn is_by_sight(views: &ThreadViews, reader: Reader) -> bool
+    ensures { IsTrue result → (t : ℕ) (i j : Store) → drops_store t views.now reader i j ≡ (is_order_below i j && is_touch_in j.first_seen.versions views.now.present) }
+{
+    match reader {
+        Reader::Load(order) => !is_seq_cst(order) && views.last_yield.is_none(),
+        Reader::Update => false,
     }
 }
 
@@ -192,6 +210,103 @@ impl State {
             MatchResult result (λ set. (set ≡ slot_set (readable s.graph thread s.thread reader s.history.stores)) × (fails_by_orders s.graph thread s.thread reader s.history.stores ≡ false))
             (λ kind. (kind ≡ OrdersEqual) × IsTrue (fails_by_orders s.graph thread s.thread reader s.history.stores)) }
     {
+        if self.goes_by_sight(views, reader) {
+            return Ok(self.above_seen(&views.present));
+        }
+        self.not_dropped(thread, views, reader)
+    }
+
+    /// Whether each slot has a store, no two of them have equal orders, and each keeps the reader from those below just where it is
+    /// seen.
+    #[inline(always)]
+    fn goes_by_sight(&self, views: &ThreadViews, reader: Reader) -> bool
+        ensures full { IsTrue result → 7 ≤ self.now.count }
+        ensures sight { IsTrue result → (t : ℕ) (i j : Store) → drops_store t views.now reader i j ≡ (is_order_below i j && is_touch_in j.first_seen.versions views.now.present) }
+        ensures differ { IsTrue result → HaveOtherOrders self.now }
+    {
+        usize::from(self.count) >= MAX_ATOMIC_HISTORY
+            && is_by_sight(views, reader)
+            && self.orders_differ()
+    }
+
+    /// Whether it is seen that no two slots have stores of equal orders.
+    fn orders_differ(&self) -> bool
+        ensures { IsTrue result → HaveOtherOrders self.now }
+    {
+        for i in 1..MAX_ATOMIC_HISTORY {
+            if !self.differs_below(i) {
+                return false;
+            }
+        }
+        true
+    }
+
+    /// Whether it is seen that the order of the store in slot `i` differs from those in the slots below.
+    #[inline(always)]
+    fn differs_below(&self, i: usize) -> bool
+        requires { i < 7 }
+        ensures { IsTrue result → (j : ℕ) → j < i → is_same_slot self.now i j ≡ false }
+    {
+        for j in 0..i {
+            if !self.stores[i].order.differs(&self.stores[j].order) {
+                return false;
+            }
+        }
+        true
+    }
+
+    /// The set of the slots that no store above keeps a reader from, where each that is seen in the view does.
+    fn above_seen(&self, view: &VersionVec) -> [bool; MAX_ATOMIC_HISTORY]
+        requires full { 7 ≤ self.now.count }
+        requires differ { HaveOtherOrders self.now }
+        ensures { result ≡ slot_set (readable_slots (is_below_seen self.now.stores view.now) self.now.count) }
+    {
+        let mut set = [true; MAX_ATOMIC_HISTORY];
+        for j in 0..MAX_ATOMIC_HISTORY {
+            if self.stores[j].first_seen.is_seen_from(view) {
+                self.leave_below(&mut set, j);
+            }
+        }
+        set
+    }
+
+    /// The slots whose stores are below the one in slot `j` leave the set.
+    // Without a branch: which ones these are can often not be foretold.
+    #[inline(always)]
+    fn leave_below(&self, set: &mut [bool; MAX_ATOMIC_HISTORY], j: usize)
+        requires slot_in { j < 7 }
+        requires differ { HaveOtherOrders self.now }
+        ensures size { length set.new ≡ 7 }
+        ensures left { (i : ℕ) → i < 7 → slice_index_or set.new i false ≡ (slice_index_or set.old i false && not (is_slot_below self.now.stores i j)) }
+    {
+        for i in 0..MAX_ATOMIC_HISTORY {
+            set[i] &= self.is_left_by(i, j);
+        }
+    }
+
+    /// Whether the store in slot `i` isn't below the one in slot `j`.
+    #[inline(always)]
+    fn is_left_by(&self, i: usize, j: usize) -> bool
+        requires i_in { i < 7 }
+        requires j_in { j < 7 }
+        requires differ { HaveOtherOrders self.now }
+        ensures { result ≡ not (is_slot_below self.now.stores i j) }
+    {
+        i == j || !self.stores[i].order.is_within(&self.stores[j].order)
+    }
+
+    /// The set that `readable` answers, found by each store against the others.
+    fn not_dropped(
+        &self,
+        thread: usize,
+        views: &ThreadViews,
+        reader: Reader,
+    ) -> Result<[bool; MAX_ATOMIC_HISTORY], FailureKind>
+        requires { thread < 5 }
+        ensures { (s : Scene) → ShowsScene thread s views.now self.now →
+            MatchResult result (λ set. (set ≡ slot_set (readable s.graph thread s.thread reader s.history.stores)) × (fails_by_orders s.graph thread s.thread reader s.history.stores ≡ false))
+            (λ kind. (kind ≡ OrdersEqual) × IsTrue (fails_by_orders s.graph thread s.thread reader s.history.stores)) }
+    {
         let mut set = [false; MAX_ATOMIC_HISTORY];
         for i in 0..self.kept() {
             let is_dropped = self.is_dropped(thread, views, reader, i)?;
@@ -205,7 +320,8 @@ impl State {
         requires { i < 7 }
         ensures { result ≡ is_order_seen self.now.stores view.now left_out i }
     {
-        left_out != Some(i) && self.stores[i].first_seen.is_seen_from(view)
+        // No test is left out: what would be skipped can't be foretold.
+        (left_out != Some(i)) & self.stores[i].first_seen.is_seen_from(view)
     }
 
     /// An order with those of the kept stores that are seen in a view, but for a slot that is left out.
@@ -219,9 +335,7 @@ impl State {
     {
         let mut joined = order;
         for i in 0..self.kept() {
-            if self.is_order_seen(view, left_out, i) {
-                joined.join(&self.stores[i].order);
-            }
+            joined.join_if(&self.stores[i].order, self.is_order_seen(view, left_out, i));
         }
         joined
     }
@@ -231,7 +345,7 @@ impl State {
         requires { i < 7 }
         ensures { result ≡ is_slot_above before.now self.now.stores left_out i }
     {
-        i != left_out && before.is_within(&self.stores[i].order)
+        (i != left_out) & before.is_within(&self.stores[i].order)
     }
 
     /// Each kept store but the one in a slot takes in an order, where its own contains what that one's order was before.
@@ -239,9 +353,8 @@ impl State {
         ensures { self.new ≡ record self.old { stores = raised_above self.old.stores self.old.count slot before.now order.now } }
     {
         for i in 0..self.kept() {
-            if self.is_above(before, slot, i) {
-                self.stores[i].order.join(order);
-            }
+            let is_above = self.is_above(before, slot, i);
+            self.stores[i].order.join_if(order, is_above);
         }
     }
 

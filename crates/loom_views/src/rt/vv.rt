@@ -1,10 +1,10 @@
 //! Version vectors: how often each thread has raised its version, as far as a view reaches. They are plain values; no call
 //! here takes memory.
 
-ghost use Rattle.std.specs.Prelude.{◌≡◌, ◌≢◌, ◌∷◌, [], ℕ, ◌+◌, ◌<◌, ◌≤◌, ◌↔◌, false, IsTrue, IfSome, slice_index, MatchOption};
+ghost use Rattle.std.specs.Prelude.{◌≡◌, ◌≢◌, ◌∷◌, [], ℕ, ◌+◌, ◌<◌, ◌≤◌, ◌↔◌, false, IsTrue, IfSome, slice_index, MatchOption, if◌then◌else◌};
 ghost use Rattle.loom_views.specs.InOrder.{PairsVectors, Ranked};
 ghost use Rattle.std.specs.Bool.{OnTrue, OnFalse};
-ghost use Rattle.loom_views.specs.Lanes.{IsLaidOut};
+ghost use Rattle.loom_views.specs.Lanes.{IsLaidOut, word_digest};
 ghost use Rattle.loom_views.specs.Limits.{highest_version};
 ghost use Rattle.loom_views.specs.Versions.{IsCounted, zeros, join, within, raised_at, versions_cmp, versions_eq, IsFirstAhead, IsLeastUpperBound};
 ghost use Rattle.loom_views.specs.VersionOrder.{versions_partial_equiv, versions_equiv, versions_order};
@@ -111,12 +111,26 @@ impl VersionVec {
         self.word = lanes::larger(self.word, other.word);
     }
 
+    /// `join`, if that holds (own).
+    pub fn join_if(&mut self, other: &VersionVec, holds: bool)
+        ensures { self.new ≡ (if holds then join self.old other.now else self.old) }
+    {
+        self.word = lanes::larger_if(self.word, other.word, holds);
+    }
+
     /// The lowest thread whose count is larger in the other vector, and none exactly if the other one is inside this one
     /// (loom's `rt/vv.rs`).
     pub fn ahead(&self, other: &VersionVec) -> Option<usize>
         ensures { MatchOption result (IsTrue (within other.now self.now)) (IsFirstAhead self.now other.now) }
     {
         lanes::first_larger(self.word, other.word)
+    }
+
+    /// Whether it is seen by a digest of 64 bits that the two have other counts (own).
+    pub fn differs(&self, other: &VersionVec) -> bool
+        ensures { IsTrue result → versions_eq self.now other.now ≡ false }
+    {
+        word_digest(self.word) != word_digest(other.word)
     }
 
     /// Whether no count here is above the other vector's (own; loom writes `<=`).
@@ -164,7 +178,9 @@ impl VersionVec {
 }
 
 /// A number that depends on a word alone (own).
-pub fn word_digest(word: u128) -> u64 {
+pub fn word_digest(word: u128) -> u64
+    ensures { result ≡ word_digest word }
+{
     let low = (word % 0x1_0000_0000_0000_0000) as u64;
     let high = (word >> 64) as u64;
     low ^ high.wrapping_mul(0xD6E8_FEB8_6659_FD93)

@@ -2,7 +2,7 @@ use Rattle.std.proofs.Common.{◌≡◌, ◌≤◌, ◌<◌, ℕ, not, false, ge
 use Rattle.std.specs.List.{list_any}
 use Rattle.loom_views.specs.Atomic.Slots.{slots, has_equal_order_at}
 use Rattle.loom_views.specs.Atomic.Ring.{drops_slot, is_same_slot}
-use Rattle.loom_views.proofs.rt.atomic.State.readable.Given as goal
+use Rattle.loom_views.proofs.rt.atomic.State.not_dropped.Given as goal
 
 -- the slots so far that no kept store drops, none of which has another's order
 abbrev pub invariant-loop-i : goal.invariant-loop-i
