@@ -94,6 +94,8 @@ impl<D: Drop> Scene<D> {
     }
 
     /// What the threads offer to a schedule, and which one goes on by itself.
+    // Inlined, so that it isn't moved.
+    #[inline(always)]
     pub fn offers(&self) -> Offers
         ensures offers { (points : Points) → (left : ℕ) → result ≡ rules.offers (world_of points left self.now) }
         ensures sound { AreSoundOffers result.default result.abilities }
