@@ -14,7 +14,6 @@ use Rattle.loom.specs.Model.Settings.{search_of}
 use Rattle.loom.specs.Runner.Parallel.{AreJoined, none, one_more, Claims, FailsSo, HasGoneOn}
 use Rattle.loom.specs.declared.model.builder.Builder.{Builder}
 use Rattle.loom.specs.declared.model.report.Report.{Report}
-use Rattle.loom.specs.declared.model.report.Report.TheVariants.{Complete, Stopped, Failed}
 use Rattle.loom.specs.declared.runner.parallel.Found.{Found}
 use Rattle.loom.specs.declared.runner.parallel.Found.TheVariants as found
 use Rattle.loom.proofs.RunnerLemmas.Workers.{is_machine}

@@ -1,5 +1,5 @@
 -- A run that notes states, and goes on from where an earlier one stood; and what is kept of runs on their way.
-use Rattle.std.proofs.Common.{◌≡◌, ◌≤◌, ◌<◌, ◌⊎◌, ℕ, arith, Bool, List, [], ◌∷◌, ◌++◌, length, map, take, Some, None, ap, sym, ◌∙◌, subst, inl, inr, ◌+◌, suc, false, Result, Ok, Err, refl}
+use Rattle.std.proofs.Common.{◌≡◌, ◌≤◌, ◌<◌, ◌⊎◌, ℕ, arith, Bool, List, [], ◌∷◌, ◌++◌, length, map, take, Some, None, ap, sym, ◌∙◌, subst, inl, inr, suc, false, Result, Ok, Err, refl}
 use Rattle.std.proofs.lemmas.List.Elements.{All-cons, All-nil, All-push, All-take}
 use Rattle.std.proofs.lemmas.List.{length-map, length-take-le}
 use Rattle.std.specs.Prelude.{All, slice_index_or, IfOk, slice_get, ⊤}

@@ -15,7 +15,7 @@ use Rattle.loom_engine.specs.Trees.Reports.{IsSearch}
 use Rattle.loom_engine.specs.Trees.Resuming.{AreAtRest, HasDefaults, WasStoppedFrom, choices_passed}
 use Rattle.loom_engine.specs.Trees.Sound.{EndsUnchosen}
 use Rattle.loom_engine.specs.declared.rt.path.node.Node.{Node}
-use Rattle.loom_engine.specs.Path.Route.{Route, at_rest, settings, stored}
+use Rattle.loom_engine.specs.Path.Route.{Route, settings, stored}
 use Rattle.loom_engine.specs.declared.rt.path.Search.{Search}
 use Rattle.loom_engine.specs.Runs.Sound.{IsRunTree}
 use Rattle.loom_engine.specs.Path.WellFormed.{AreWellFormed, AreAtRest as AllAtRest, AreAlike, bare}

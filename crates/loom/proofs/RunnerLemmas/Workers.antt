@@ -5,7 +5,7 @@ use Rattle.loom_objects.specs.declared.choice.Choice.{Choice}
 use Rattle.loom_objects.specs.Tree.Tree.{Tree}
 use Rattle.loom_engine.specs.Walk.Machine.{Machine, run}
 use Rattle.loom_engine.specs.Walk.Sound.{IsMachine}
-use Rattle.loom_engine.specs.Walk.Path.{Stored, choices, IsResting, by_path}
+use Rattle.loom_engine.specs.Walk.Path.{Stored, IsResting, by_path}
 use Rattle.loom_engine.specs.Walk.Walks.{run_of}
 use Rattle.loom_engine.specs.Walk.Runs.{Reachable}
 use Rattle.loom_engine.specs.Walk.Lists.{Member, IsOnce}

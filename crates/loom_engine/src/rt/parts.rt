@@ -5,7 +5,7 @@ pub mod text;
 pub mod value;
 pub mod write;
 
-ghost use Rattle.std.specs.Prelude.{◌≡◌, ◌<◌, ◌↔◌, ℕ, List, [], IfOk, IfSome, IsTrue, None, Some, length, slice_get, true};
+ghost use Rattle.std.specs.Prelude.{◌≡◌, ◌↔◌, ℕ, List, [], IfOk, IfSome, IsTrue, None, length, true};
 ghost use Rattle.loom_objects.specs.declared.choice.Choice.{Choice as Chosen};
 ghost use Rattle.loom_engine.specs.Walk.Machine.{Machine};
 ghost use Rattle.loom_engine.specs.Walk.Sound.{IsMachine};

@@ -6,7 +6,7 @@ ghost use Rattle.loom_objects.specs.Scene.Lookup as lookup;
 ghost use Rattle.loom_objects.specs.contracts.rt.mutex.Mutex as mutex_row;
 ghost use Rattle.loom_objects.specs.Lent.{handed_out, lent_to, taken_apart};
 ghost use Rattle.loom_objects.specs.Rules.Mutex.{free_value};
-ghost use Rattle.std.specs.Prelude.{◌≡◌, OnSome, IfNone, None, Some, IfOk, OnErr, true};
+ghost use Rattle.std.specs.Prelude.{◌≡◌, OnSome, IfNone, Some, IfOk, OnErr, true};
 ghost use Rattle.loom_objects.specs.Rules.Mutex as rules;
 ghost use Rattle.loom_objects.specs.Scene.Stage.{Does, DoesIfOk};
 

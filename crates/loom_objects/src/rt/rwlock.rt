@@ -4,7 +4,7 @@ ghost use Rattle.loom_objects.specs.Scene.Lends.{lends_in_scene, lends_kind};
 ghost use Rattle.loom_objects.specs.Scene.Lookup.{now_of, shown_of};
 ghost use Rattle.loom_objects.specs.Scene.Lookup as lookup;
 ghost use Rattle.loom_objects.specs.contracts.rt.rwlock.RwLock as rwlock_row;
-ghost use Rattle.std.specs.Prelude.{◌≡◌, OnSome, IfNone, None, Some, IfOk, OnErr, true};
+ghost use Rattle.std.specs.Prelude.{◌≡◌, OnSome, IfNone, Some, IfOk, OnErr, true};
 ghost use Rattle.loom_objects.specs.Lent.{handed_out, lent_to, taken_apart, value_in};
 ghost use Rattle.loom_objects.specs.Rules.RwLock as rules;
 ghost use Rattle.loom_objects.specs.Scene.Stage.{Does, DoesIfOk};

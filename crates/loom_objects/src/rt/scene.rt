@@ -5,7 +5,7 @@ pub mod uses;
 pub mod values;
 pub mod views;
 
-ghost use Rattle.std.specs.Prelude.{ℕ, ◌≡◌, ◌++◌, ◌∷◌, [], ◌<◌, ◌≤◌, Some, Ok, Err, IfOk, OnOk, length, map, slice_get, option_map};
+ghost use Rattle.std.specs.Prelude.{ℕ, ◌≡◌, ◌++◌, ◌∷◌, [], ◌<◌, ◌≤◌, Some, IfOk, OnOk, length, map, slice_get, option_map};
 ghost use Rattle.std.specs.Borrow.{sem};
 ghost use Rattle.loom_objects.specs.Scene.Lookup.{now_of, shown_of};
 ghost use Rattle.loom_objects.specs.Scene.Lookup as lookup;

@@ -1,7 +1,7 @@
 //! One run of a search that remembers states, along its path. Where an operation comes to its first branch point past the path's
 //! nodes, and the run explores there, its state is looked up: if it was noted the run is given up, and otherwise it is noted. Where
 //! runs are kept it goes on from the last one whose choices are those of its path.
-ghost use Rattle.std.specs.Prelude.{◌≡◌, ◌≤◌, ◌+◌, ◌⊎◌, [], None, IfOk, OnOk};
+ghost use Rattle.std.specs.Prelude.{◌≡◌, ◌≤◌, ◌+◌, [], None, IfOk, OnOk};
 ghost use Rattle.loom_engine.specs.Covering.Kept.{beside};
 ghost use Rattle.loom_engine.specs.Path.Route.{IsAtStart, IsSameSearch};
 ghost use Rattle.loom_engine.specs.Trees.Meeting.{whole_search};

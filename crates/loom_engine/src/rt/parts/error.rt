@@ -1,6 +1,4 @@
 //! Why a text or a value is no part, and no list of parts.
-ghost use Rattle.loom_engine.specs.declared.rt.path.checkpoint.error.PathError.{PathError as Refused};
-ghost use Rattle.std.specs.Prelude.{◌≡◌};
 
 use crate::rt::path::checkpoint::error::PathError;
 use std::alloc::AllocError;

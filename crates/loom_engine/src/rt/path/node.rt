@@ -1,11 +1,10 @@
 //! The kinds of nodes of a path, and what a run notes of the schedules that it has passed (loom's `rt/path.rs`).
-ghost use Rattle.std.specs.Prelude.{◌≡◌, ◌<◌, ◌≤◌, ◌+◌, ◌^◌, ◌↔◌, ◌&&◌, ℕ, List, [], ◌∷◌, ◌++◌, Option, IfSome, IsSomeAnd, IsTrue, true, slice_get, slice_index, length};
+ghost use Rattle.std.specs.Prelude.{◌≡◌, ◌<◌, ◌≤◌, ◌+◌, ◌^◌, ◌↔◌, ◌&&◌, ℕ, List, [], ◌∷◌, ◌++◌, IfSome, IsSomeAnd, IsTrue, true, slice_get, slice_index, length};
 ghost use Rattle.std.specs.List.{position_from, Contains};
 ghost use Rattle.std.specs.Option.{option_map};
 ghost use Rattle.loom_objects.specs.Tree.Question.{Made, made_of};
 ghost use Rattle.loom_objects.specs.Tree.Stores.{slots, which_store};
-ghost use Rattle.loom_objects.specs.Tree.Sound.{AreSoundOffers};
-ghost use Rattle.loom_objects.specs.Tree.Asked.{which_thread, whether_spurious};
+ghost use Rattle.loom_objects.specs.Tree.Asked.{whether_spurious};
 ghost use Rattle.loom_engine.specs.Walk.Path.{choose as chosen};
 ghost use Rattle.loom_engine.specs.Trees.Drive.{pass_of};
 ghost use Rattle.loom_engine.specs.Trees.Meeting.{preempts};

@@ -1,5 +1,5 @@
 //! A path as a part of a search: its first nodes are fixed (own).
-ghost use Rattle.std.specs.Prelude.{◌≡◌, ◌≤◌, ◌<◌, ◌++◌, ◌∷◌, [], IfErr, IfOk, IfSome, length, slice_get, take};
+ghost use Rattle.std.specs.Prelude.{◌≡◌, ◌≤◌, ◌++◌, ◌∷◌, [], IfErr, IfOk, IfSome, length, slice_get, take};
 ghost use Rattle.loom_engine.specs.Parts.Openings.{chosen_to, key_at, Adds, AddsLow, AreLow, OpensAt, StepsAbove};
 ghost use Rattle.loom_engine.specs.Walk.Machine.{is_thread};
 ghost use Rattle.loom_engine.specs.Path.Nodes.{seen, AreWell, IsWell};

@@ -1,6 +1,6 @@
 //! What the active thread does to the views of a run, and to its threads and objects where these grow.
 ghost use Rattle.loom_views.specs.Views.{Points, ShowsViews, MovesAs, LoadsAs, StoresAs, OffersAs, IsSlotKept};
-ghost use Rattle.std.specs.Prelude.{◌≡◌, ◌++◌, ◌∷◌, [], ◌<◌, ◌≤◌, Ok, Err, OnOk, OnErr, length, slice_get};
+ghost use Rattle.std.specs.Prelude.{◌≡◌, ◌++◌, ◌∷◌, [], ◌≤◌, Ok, Err, OnOk, OnErr, length, slice_get};
 ghost use Rattle.std.specs.declared.sync.atomic.Ordering.TheVariants.{AcqRel, Release};
 ghost use Rattle.loom_objects.specs.Rules.Moves.{joined_points};
 ghost use Rattle.loom_views.specs.Views as table;

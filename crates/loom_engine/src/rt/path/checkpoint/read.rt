@@ -1,11 +1,11 @@
 //! Reading the parts of a path.
-ghost use Rattle.std.specs.Prelude.{◌≡◌, ◌==◌, ◌↔◌, IsTrue, count_by, Some, option_map, map, drop};
+ghost use Rattle.std.specs.Prelude.{◌≡◌, ◌==◌, ◌↔◌, IsTrue, count_by, option_map, map, drop};
 ghost use Rattle.loom_engine.specs.Path.Nodes.{is_active};
 ghost use Rattle.loom_engine.specs.Path.WellFormed.{is_tried, is_marked, is_at, is_well_formed_schedule, is_well_formed_load, is_well_formed_spurious};
 ghost use Rattle.serde_json.specs.Find.{as_bool, as_str};
 ghost use Rattle.serde_json.specs.View.{view, members_view};
 ghost use Rattle.loom_engine.specs.Checkpoint.Accepted.{version_of};
-ghost use Rattle.loom_engine.specs.Checkpoint.Reader.{as_whole, as_list, as_whole_or_null, taken, expected, ends, status_named, status_of, statuses_of, marks_of, list_of, is_number, begins_with, schedule_of, load_of, spurious_of, node_of, shape_of};
+ghost use Rattle.loom_engine.specs.Checkpoint.Reader.{as_whole, as_list, as_whole_or_null, taken, expected, ends, status_named, status_of, statuses_of, marks_of, begins_with, schedule_of, load_of, spurious_of, node_of, shape_of};
 
 use crate::rt::path::node::{Load, Node, Schedule, Spurious, Status, count_slots};
 use loom_views::rt::{MAX_ATOMIC_HISTORY, MAX_THREADS};

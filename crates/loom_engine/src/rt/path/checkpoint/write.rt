@@ -1,9 +1,9 @@
 //! Writing a path and its parts.
-ghost use Rattle.std.specs.Prelude.{◌≡◌, IfOk, map, codes, length};
+ghost use Rattle.std.specs.Prelude.{◌≡◌, IfOk, map};
 ghost use Rattle.serde_json.specs.View.{view};
 ghost use Rattle.loom_engine.specs.Checkpoint.Shape.{order_rule, shape_data};
 ghost use Rattle.loom_objects.specs.Tree.Stores.{slots};
-ghost use Rattle.loom_engine.specs.Checkpoint.Grammar.{status_text, status_data, whole, node_data, schedule_data, load_data, spurious_data, whole_or_null};
+ghost use Rattle.loom_engine.specs.Checkpoint.Grammar.{status_text, status_data, whole, node_data, schedule_data, load_data, spurious_data};
 
 use crate::rt::path::Search;
 use crate::rt::path::checkpoint::{ORDER, VERSION};

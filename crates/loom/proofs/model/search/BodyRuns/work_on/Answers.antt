@@ -1,5 +1,4 @@
 use Rattle.std.proofs.Common.{ℕ, ◌≡◌, ◌⊎◌, ◌<◌, ◌≤◌, ◌+◌, ◌^◌, max, inl, inr, refl, ap, sym, ◌∙◌, subst, length, arith}
-use Rattle.std.specs.Prelude.{false}
 use Rattle.loom_engine.specs.Path.Route.{Route}
 use Rattle.loom_engine.specs.Runs.Body.{runs}
 use Rattle.loom_engine.proofs.Runs.Bodies.{run_tree_law}

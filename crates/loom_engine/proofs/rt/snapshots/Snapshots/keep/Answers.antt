@@ -1,4 +1,3 @@
-use Rattle.std.proofs.Common.{ap, ◌∙◌, sym}
 use Rattle.loom_engine.proofs.Snapshots.{one_more}
 use Rattle.loom_engine.proofs.rt.snapshots.Snapshots.keep.Goals as goal
 

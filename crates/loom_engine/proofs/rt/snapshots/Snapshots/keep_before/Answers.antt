@@ -1,4 +1,4 @@
-use Rattle.std.proofs.Common.{◌<◌, List, ap, subst, sym, take, ◌∙◌}
+use Rattle.std.proofs.Common.{◌<◌, ap, subst, sym, take, ◌∙◌}
 use Rattle.std.specs.Prelude.{All}
 use Rattle.loom_engine.proofs.rt.snapshots.Snapshots.keep_before.Goals as goal
 

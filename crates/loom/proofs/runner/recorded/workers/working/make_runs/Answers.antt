@@ -1,5 +1,4 @@
 use Rattle.std.proofs.Common.{ℕ, ◌≡◌, ◌⊎◌, ◌<◌, ◌≤◌, ◌+◌, max, inl, inr, refl, ap, sym, ◌∙◌, subst, length, arith}
-use Rattle.std.specs.Prelude.{false}
 use Rattle.loom_engine.specs.declared.rt.parts.Part.{Part}
 use Rattle.loom.specs.declared.model.parts.Worked.TheVariants.{Failed, Made}
 use Rattle.loom.proofs.RunnerLemmas.RecordedWorkers.{HasPlayed, playing_ends, playing_fails, playing_lacks, playing_on, playing_start, playing_starts, playing_stops}
