@@ -131,8 +131,18 @@ fn is_request_same(one: &Request<Value, usize>, other: &Request<Value, usize>) -
         Request::Lazy(a) => is_kind!(other, Request::Lazy(x) => a == x),
         Request::Explore(a) => is_kind!(other, Request::Explore(x) => a == x),
         Request::Thread(a) => is_kind!(other, Request::Thread(x) => is_thread_same(a, x)),
+        _ => is_end_same(one, other),
+    }
+}
+
+// Whether two requests that end the run are the same. Scripts have no others.
+fn is_end_same(one: &Request<Value, usize>, other: &Request<Value, usize>) -> bool
+    ensures { IsTrue result → one.now ≡ other.now }
+{
+    match one {
         Request::Fail => matches!(other, Request::Fail),
         Request::Unreachable => matches!(other, Request::Unreachable),
+        _ => false,
     }
 }
 
