@@ -3,3 +3,4 @@ pub mod Ranks
 pub mod Sight
 pub mod Views
 pub mod Packed
+pub mod Places

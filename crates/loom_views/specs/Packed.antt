@@ -34,6 +34,12 @@ all_stores (Point view ∷ list) = all_stores list
 all_stores (Cell records ∷ list) = all_stores list
 all_stores (Atomic head ∷ list) = head.kept + all_stores list
 
+-- what is kept of one, with its stores
+abbrev pub unpacked_one : Packed → List Store → Kept
+unpacked_one (Point view) stores = kept.Point view
+unpacked_one (Cell records) stores = kept.Cell records
+unpacked_one (Atomic head) stores = kept.Atomic (whole head stores)
+
 -- what is kept, with the stores of all of them
 abbrev pub unpacked : List Packed → List Store → List Kept
 unpacked [] stores = []

@@ -877,6 +877,13 @@ impl Same for Head {
 }
 
 impl Head {
+    /// How many stores there are up to the last one that isn't empty (own).
+    pub fn kept(&self) -> usize
+        ensures { result ≡ self.now.kept }
+    {
+        self.kept
+    }
+
     /// A number that depends on it alone (own).
     pub fn digest(&self) -> u64 {
         let digest = mixed(self.loaded_at.digest(), self.stored_at.digest());

@@ -1,4 +1,5 @@
 //! What is kept of each object of a run, in little room: of an atomic no stores behind the last one that isn't empty.
+pub mod place;
 
 ghost use Rattle.std.specs.Prelude.{◌≡◌, ◌++◌, ◌∷◌, [], IfOk, IfSome, length};
 ghost use Rattle.loom_views.specs.InOrder.{PairsPlaces, PairsStates, Ranked};

@@ -1,4 +1,5 @@
 //! Views by the ranks of their counts, as a search keeps them: in little room, and found again by a number.
+pub mod noted;
 
 ghost use Rattle.std.specs.Prelude.{ℕ, ◌≡◌, ◌<◌, IfOk, IfSome, slice_get};
 ghost use Rattle.loom_views.specs.InOrder.{IsInOrder, PairAll, PairsAt, PairsPlaces, PairsThreads, PairsVectors, PairsViews, Ranked};
