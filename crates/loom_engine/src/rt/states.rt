@@ -1,4 +1,5 @@
 //! States that a search remembers: copies of where runs stood at branch points, with which later runs are compared.
+pub(crate) mod shelves;
 pub mod ways;
 
 ghost use Rattle.std.specs.Prelude.{◌≡◌, [], IfOk, IfSome, IsTrue, ◌++◌, Bool, List, length, slice_get, Some};
@@ -13,6 +14,7 @@ ghost use Rattle.loom_engine.specs.Walk.Path.{Stored};
 
 use crate::rt::execution::Execution;
 use crate::rt::path::Path;
+use crate::rt::states::shelves::Shelves;
 use loom_objects::body::Body;
 use loom_objects::choice::Choice;
 use loom_objects::data::Data;
@@ -22,48 +24,53 @@ use loom_objects::rt::object::Object;
 use loom_objects::rt::scene::Scene;
 use loom_objects::rt::schedule::{Yields, no_yields};
 use loom_objects::rt::thread::Thread;
+use loom_views::chains::Chains;
 use loom_views::rt::views::ranked::RankedViews;
-use loom_views::rt::vv::mixed;
+use loom_views::rt::views::ranked::noted::NotedViews;
 use loom_views::same::{Same, are_same};
 use loom_views::sequence::Sequence;
+use loom_views::shelf::{Shared, are_shared};
 use std::alloc::{AllocError, Global};
 use std::marker::Model;
 
-/// What is kept of a run that stands at a branch point at which its search explores (own).
+/// What is kept of a run that stands at a branch point at which its search explores. Its parts are shared with states that have
+/// the same ones (own).
 #[derive(Drop)]
 pub struct State<D, B> {
-    threads: Sequence<Thread<D>>,
-    objects: Sequence<Object<D>>,
-    views: RankedViews,
+    threads: Shared<Sequence<Thread<D>>>,
+    objects: Shared<Sequence<Object<D>>>,
+    views: NotedViews,
     lazies: Sequence<Lazy<D>>,
     max_threads: usize,
     yields: Yields,
     // of how many threads there are accesses in order
     ordered: usize,
-    bodies: Sequence<B>,
+    bodies: Sequence<Shared<B>>,
 }
 
 impl<D: Data + Same, B: Body + Same> State<D, B> {
-    /// A copy of where a run stands, with these views in place of its own. An error where memory is refused.
+    /// What is kept of where a run stands, with these views in place of its own, its parts on the shelves. An error where memory is refused.
     fn of(
         alloc: Global,
+        shelves: &mut Shelves<D, B>,
         execution: &Execution<D>,
         bodies: &[B],
-        views: RankedViews,
+        views: &RankedViews,
         never_switches: bool,
     ) -> Result<State<D, B>, AllocError>
-        ensures { IfOk result (λ state. state ≡ state_in never_switches execution.now.run bodies.now views) }
+        ensures { IfOk result (λ state. state ≡ state_in never_switches execution.now.run bodies.now views.now) }
     {
         let scene = execution.scene();
+        let threads = scene.threads().as_slice();
         Ok(State {
-            threads: copied_all(alloc, scene.threads().as_slice())?,
-            objects: copied_all(alloc, scene.objects().as_slice())?,
-            views,
+            threads: shelves.threads(alloc, threads)?,
+            objects: shelves.objects(alloc, scene.objects().as_slice(), threads)?,
+            views: shelves.views(alloc, views)?,
             lazies: copied_all(alloc, scene.lazies().as_slice())?,
             max_threads: scene.max_threads(),
             yields: kept_yields(never_switches, scene.yields()),
             ordered: execution.ordered_threads(),
-            bodies: copied_bodies(alloc, bodies)?,
+            bodies: shelves.bodies(alloc, bodies, threads)?,
         })
     }
 
@@ -74,10 +81,10 @@ impl<D: Data + Same, B: Body + Same> State<D, B> {
         if self.max_threads != scene.max_threads() {
             return false;
         }
-        if !are_equal(self.threads.as_slice(), scene.threads().as_slice()) {
+        if !are_equal(self.threads.get().as_slice(), scene.threads().as_slice()) {
             return false;
         }
-        if !are_equal(self.objects.as_slice(), scene.objects().as_slice()) {
+        if !are_equal(self.objects.get().as_slice(), scene.objects().as_slice()) {
             return false;
         }
         are_equal(self.lazies.as_slice(), scene.lazies().as_slice())
@@ -102,7 +109,7 @@ impl<D: Data + Same, B: Body + Same> State<D, B> {
     ) -> bool
         ensures { IsTrue result → self.now ≡ state_in never_switches execution.now.run bodies.now views.now }
     {
-        if !self.views.is_same(views) {
+        if !views.are_noted(&self.views) {
             return false;
         }
         if !self.has_yields(execution.scene(), never_switches) {
@@ -114,7 +121,7 @@ impl<D: Data + Same, B: Body + Same> State<D, B> {
         if !self.has_scene(execution.scene()) {
             return false;
         }
-        are_same(self.bodies.as_slice(), bodies)
+        are_shared(self.bodies.as_slice(), bodies)
     }
 }
 
@@ -146,8 +153,8 @@ pub(crate) fn copied_bodies<B: Body>(alloc: Global, bodies: &[B]) -> Result<Sequ
     Ok(Sequence::from_vec(copy))
 }
 
-// how many lists of states there are, each of those that have the same remainder
-const LISTS: usize = 65_536;
+// how many chains there are of states
+const CHAINS: usize = 8_192;
 
 /// The states that a search has noted, at most so many of them, each with the choices by which a run came to it. Where no more may be,
 /// none is noted, and those that were are still found. Of a body that is known never to switch whether the search explores they are told
@@ -156,12 +163,9 @@ const LISTS: usize = 65_536;
 pub struct States<D, B> {
     states: Sequence<State<D, B>>,
     led_by: Sequence<Sequence<Choice>>,
-    // for each state the number of the one before in its list, counted from 1, or 0
-    before: Vec<usize>,
-    // the last one of each list
-    last: Vec<usize>,
-    // the digest of each one's views
-    digests: Vec<u64>,
+    // their numbers by the digests of their views
+    chains: Chains,
+    shelves: Shelves<D, B>,
     // views that were written for a look-up, in whose room the next one writes its own
     spare: Option<RankedViews>,
     most: usize,
@@ -183,14 +187,11 @@ impl<D: Data + Same, B: Body + Same> States<D, B> {
     pub fn new(alloc: Global, most: usize, never_switches: bool) -> Result<States<D, B>, AllocError>
         ensures { IfOk result (λ states. states ≡ record { states = []; led_by = []; never = never_switches }) }
     {
-        let mut last = Vec::new(alloc);
-        last.resize(LISTS, 0)?;
         Ok(States {
             states: Sequence::new(alloc),
             led_by: Sequence::new(alloc),
-            before: Vec::new(alloc),
-            last,
-            digests: Vec::new(alloc),
+            chains: Chains::new(alloc, CHAINS)?,
+            shelves: Shelves::new(alloc)?,
             spare: None,
             most,
             never_switches,
@@ -205,9 +206,8 @@ impl<D: Data + Same, B: Body + Same> States<D, B> {
         States {
             states: Sequence::new(alloc),
             led_by: Sequence::new(alloc),
-            before: Vec::new(alloc),
-            last: Vec::new(alloc),
-            digests: Vec::new(alloc),
+            chains: Chains::none(alloc),
+            shelves: Shelves::none(alloc),
             spare: None,
             most: 0,
             never_switches,
@@ -332,20 +332,17 @@ impl<D: Data + Same, B: Body + Same> States<D, B> {
     ) -> Option<usize>
         ensures { IfSome result (λ number. slice_get self.now.states number ≡ Some (state_in never_switches execution.now.run bodies.now views.now)) }
     {
-        let mut number = self.last_of(list_of(digest));
+        let mut next = self.chains.last(digest);
         for _ in 0..self.states.len() {
-            if number == 0 || number > self.states.len() {
+            let number = next?;
+            if number >= self.states.len() {
                 return None;
             }
-            if self.has_digest(number - 1, digest)
-                && self
-                    .states
-                    .at(number - 1)
-                    .is_at(execution, bodies, views, never_switches)
-            {
-                return Some(number - 1);
+            let state = self.states.at(number);
+            if state.is_at(execution, bodies, views, never_switches) {
+                return Some(number);
             }
-            number = self.one_before(number - 1);
+            next = self.chains.before(number, digest);
         }
         None
     }
@@ -365,10 +362,29 @@ impl<D: Data + Same, B: Body + Same> States<D, B> {
         if self.states.len() >= self.most {
             return Ok(());
         }
-        let views = views.try_clone(self.alloc)?;
-        let state = State::of(self.alloc, execution, bodies, views, self.never_switches)?;
+        let state = self.kept(execution, bodies, views)?;
         let choices = path.choices(self.alloc)?;
         self.add(state, digest, Sequence::from_vec(choices))
+    }
+
+    /// What is kept of the run, with these views in place of its own. Nothing is noted. An error where memory is refused.
+    fn kept(
+        &mut self,
+        execution: &Execution<D>,
+        bodies: &[B],
+        views: &RankedViews,
+    ) -> Result<State<D, B>, AllocError>
+        ensures state { IfOk result (λ state. state ≡ state_in self.old.never execution.now.run bodies.now views.now) }
+        ensures same { self.new ≡ self.old }
+    {
+        State::of(
+            self.alloc,
+            &mut self.shelves,
+            execution,
+            bodies,
+            views,
+            self.never_switches,
+        )
     }
 
     /// Adds the states of another table, as far as there may be more (own). One that both tables have then stands here twice. An error
@@ -376,13 +392,14 @@ impl<D: Data + Same, B: Body + Same> States<D, B> {
     pub fn join(&mut self, other: States<D, B>) -> Result<(), AllocError>
         ensures { IfOk result (λ _. (never : Bool) (key : List Chosen → Key D B) (left : List (List Stored)) → IsTableOf never key left self.old → IsTableOf never key left other → IsTableOf never key left self.new) }
     {
+        let chains = other.chains;
         let mut states = other.states.into_vec();
         let mut led_by = other.led_by.into_vec();
         'join: while let Some(state) = states.pop() {
             let Some(choices) = led_by.pop() else {
                 return Ok(());
             };
-            let digest = state.views.digest();
+            let digest = chains.digest(states.len());
             self.add(state, digest, choices)?;
         }
         Ok(())
@@ -400,44 +417,9 @@ impl<D: Data + Same, B: Body + Same> States<D, B> {
         if self.states.len() >= self.most {
             return Ok(());
         }
-        let list = list_of(digest);
-        let before = self.last_of(list);
         self.led_by.push(choices)?;
-        self.before.push(before)?;
-        self.digests.push(digest)?;
+        self.chains.add(digest)?;
         self.states.push(state)?;
-        if let Some(last) = self.last.get_mut(list) {
-            *last = self.states.len();
-        }
         Ok(())
     }
-
-    /// Whether the state at this place has this digest.
-    fn has_digest(&self, place: usize, digest: u64) -> bool {
-        match self.digests.get(place) {
-            Some(other) => *other == digest,
-            None => false,
-        }
-    }
-
-    /// The number of the last state of a list, counted from 1, or 0.
-    fn last_of(&self, list: usize) -> usize {
-        match self.last.get(list) {
-            Some(number) => *number,
-            None => 0,
-        }
-    }
-
-    /// The number of the state before the one at this place, counted from 1, or 0.
-    fn one_before(&self, place: usize) -> usize {
-        match self.before.get(place) {
-            Some(number) => *number,
-            None => 0,
-        }
-    }
-}
-
-/// The list in which a state with views of this digest is: by its highest bits, which depend on all of it.
-fn list_of(digest: u64) -> usize {
-    (mixed(mixed(digest, 0), 0) >> 48) as usize
 }

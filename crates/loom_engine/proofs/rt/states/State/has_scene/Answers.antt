@@ -7,8 +7,8 @@ returns g c = λ same.
     let objects = c.are_equal-2.ensures (search rules) in
     let lazies = c.are_equal-3.ensures same in
     record {
-      threads = cc (threads, c.as_slice.ensures, c.as_slice-2.ensures, c.threads.ensures);
-      objects = cc (objects, c.as_slice-3.ensures, c.as_slice-4.ensures, c.objects.ensures);
+      threads = cc (threads, c.as_slice.ensures, c.get.ensures, c.as_slice-2.ensures, c.threads.ensures);
+      objects = cc (objects, c.as_slice-3.ensures, c.get-2.ensures, c.as_slice-4.ensures, c.objects.ensures);
       lazies = cc (lazies, c.as_slice-5.ensures, c.as_slice-6.ensures, c.lazies.ensures);
       max_threads = cc (c.if-self-max_threads.false, c.max_threads.ensures);
     }
