@@ -54,6 +54,7 @@ pub fn resume<D: Data>(run: &mut RunState<D>, thread: u8) -> Result<Resumed<D>, 
 }
 
 /// An access goes on by the slot that was chosen, in which a store is kept.
+#[inline(always)]
 pub fn read<D: Drop>(run: &mut RunState<D>, load: &Loading, slot: u8) -> Result<Turn<D>, Stop>
     ensures does { (w : World D) → Shows w run.old → KeepsAt w.points (accessed load.now.access) slot →
         Comes (rules.read_by load.now w (Choice.Load slot)) result run.new }
