@@ -2,5 +2,6 @@
 pub mod Making
 pub mod Given
 pub mod Drawing
+pub mod First
 pub mod Below
 pub mod Paths

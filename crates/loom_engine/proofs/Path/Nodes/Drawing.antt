@@ -1,5 +1,5 @@
 -- A new schedule at a thread that was drawn: first its default is visited, and then the thread is the choice, which may be the default.
-use Rattle.std.proofs.Common.{◌≡◌, ◌⊎◌, ◌<◌, ℕ, zero, suc, Bool, true, false, List, [], ◌∷◌, length, map, Option, Some, None, inl, inr, refl, ap, sym, ◌∙◌, subst, arith}
+use Rattle.std.proofs.Common.{◌≡◌, ◌⊎◌, ◌<◌, ℕ, zero, suc, Bool, true, false, List, [], ◌∷◌, length, get_or, map, Option, Some, None, inl, inr, refl, ap, sym, ◌∙◌, subst, arith}
 use Rattle.std.specs.Prelude.{slice_get, slice_set, IfSome, IsSomeAnd}
 use Rattle.loom_objects.specs.declared.choice.Choice.TheVariants.{Thread}
 use Rattle.loom_objects.specs.declared.rt.schedule.Ability.{Ability}
@@ -17,6 +17,7 @@ use Rattle.loom_engine.specs.Walk.Choices.{same}
 use Rattle.loom_engine.specs.Walk.Path.{IsAtRest, Stored, fresh}
 use Rattle.loom_engine.proofs.Nodes.Nodes.Choosing.{chosen_is, chosen_rests}
 use Rattle.loom_engine.proofs.Nodes.Nodes.Statuses.{get_else}
+use Rattle.std.proofs.lemmas.List.{length-set}
 use Rattle.loom_engine.proofs.Path.Nodes.Given.{at_default, at_other}
 use Rattle.loom_engine.proofs.Path.Nodes.Making.{fresh_rests, get_map, made_is}
 
@@ -28,6 +29,30 @@ set_twice (x ∷ l) (suc i) a b = ap (λ (r : List Status). x ∷ r) (set_twice 
 with_twice : (o : Option ℕ) (a b : Status) (l : List Status) → with_status o b (with_status o a l) ≡ with_status o b l
 with_twice None a b l = refl
 with_twice (Some k) a b l = set_twice l k a b
+
+-- a status among those with one that is set
+pub status_other : (o : Option ℕ) (s : Status) (l : List Status) (k : ℕ) → (o ≡ Some k → ⊥) → slice_get (with_status o s l) k ≡ slice_get l k
+status_other None s l k f = refl
+status_other (Some j) s l k f = get_else l j k s (λ e. f (ap Some e))
+
+pub stands : (l : List Status) (k : ℕ) (d : Status) → k < length l → slice_get l k ≡ Some (get_or l k d)
+stands [] k d h = absurd (omega arith)
+stands (x ∷ l) zero d h = refl
+stands (x ∷ l) (suc k) d h = stands l k d (omega arith)
+
+-- five statuses are those of a list of five
+pub five_are : (l : List Status) (a b c d e : Status) → length l ≡ 5 → slice_get l 0 ≡ Some a → slice_get l 1 ≡ Some b → slice_get l 2 ≡ Some c → slice_get l 3 ≡ Some d → slice_get l 4 ≡ Some e → a ∷ b ∷ c ∷ d ∷ e ∷ [] ≡ l
+five_are (v ∷ w ∷ x ∷ y ∷ z ∷ []) a b c d e h p q r s t = cc
+five_are [] a b c d e h p q r s t = absurd (omega arith)
+five_are (v ∷ []) a b c d e h p q r s t = absurd (omega arith)
+five_are (v ∷ w ∷ []) a b c d e h p q r s t = absurd (omega arith)
+five_are (v ∷ w ∷ x ∷ []) a b c d e h p q r s t = absurd (omega arith)
+five_are (v ∷ w ∷ x ∷ y ∷ []) a b c d e h p q r s t = absurd (omega arith)
+five_are (v ∷ w ∷ x ∷ y ∷ z ∷ u ∷ l) a b c d e h p q r s t = absurd (omega arith)
+
+pub with_status-length : (o : Option ℕ) (s : Status) (l : List Status) → length (with_status o s l) ≡ length l
+with_status-length None s l = refl
+with_status-length (Some k) s l = length-set l k s
 
 left_made : (every : Bool) → is_left (made_status every Able) ≡ true
 left_made true = refl

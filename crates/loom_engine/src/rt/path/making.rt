@@ -10,7 +10,8 @@ ghost use Rattle.loom_objects.specs.declared.rt.schedule.Ability.TheVariants.{Ab
 ghost use Rattle.loom_objects.specs.Tree.Stores.{slots, which_store};
 ghost use Rattle.loom_engine.specs.Walk.Path.{fresh};
 ghost use Rattle.loom_engine.specs.Trees.Drive.{new_node};
-ghost use Rattle.loom_engine.specs.Path.Nodes.{made_status, is_left, seen_schedule, seen_load, seen_spurious, IsWellSchedule, IsWellLoad};
+ghost use Rattle.loom_engine.specs.declared.rt.path.node.Status.{Status};
+ghost use Rattle.loom_engine.specs.Path.Nodes.{with_status as with_statuses, made_status, is_left, seen_schedule, seen_load, seen_spurious, IsWellSchedule, IsWellLoad};
 
 use crate::rt::path::node::{
     Load, Schedule, Spurious, Status, Tally, count_slots, is_same_thread, with_status,
@@ -119,16 +120,48 @@ pub(crate) fn schedule_drawn(
 {
     let chosen = able_or_default(offers, drawn);
     let made = made_statuses(&offers.abilities, every);
-    let passed_over = with_status(made, offers.default, Status::Visited);
     let schedule = Schedule {
         preemptions: passed.preemptions,
         switch: passed.switch,
         nearest: passed.nearest,
         first: offers.default,
         exploring,
-        statuses: with_status(passed_over, chosen, Status::Active),
+        statuses: drawn_statuses(&made, offers.default, chosen),
     };
     (schedule, chosen)
+}
+
+/// The statuses with the default visited, and then this thread as the choice.
+// Each is made by itself: an array that is written at one place has to be in memory, and is waited for there.
+#[inline(always)]
+fn drawn_statuses(
+    made: &[Status; MAX_THREADS],
+    default: Option<u8>,
+    chosen: Option<u8>,
+) -> [Status; MAX_THREADS]
+    ensures { result ≡ with_statuses chosen Status.Active (with_statuses default Status.Visited made.now) }
+{
+    [
+        drawn_status(made[0], 0, default, chosen),
+        drawn_status(made[1], 1, default, chosen),
+        drawn_status(made[2], 2, default, chosen),
+        drawn_status(made[3], 3, default, chosen),
+        drawn_status(made[4], 4, default, chosen),
+    ]
+}
+
+/// The status of a thread among them.
+#[inline(always)]
+fn drawn_status(status: Status, thread: u8, default: Option<u8>, chosen: Option<u8>) -> Status
+    ensures { (made : List Status) → slice_get made thread ≡ Some status → slice_get (with_statuses chosen Status.Active (with_statuses default Status.Visited made)) thread ≡ Some result }
+{
+    if is_same_thread(chosen, Some(thread)) {
+        Status::Active
+    } else if is_same_thread(default, Some(thread)) {
+        Status::Visited
+    } else {
+        status
+    }
 }
 
 /// The thread, if there is one and it can go on, or else the default.

@@ -1,7 +1,7 @@
 //! A node of a path as a word of 64 bits, and the fields of that word (own). Only this file knows which bits a field is. Its
 //! functions are inlined, so that who asks for one field of a node reads no other.
 
-ghost use Rattle.std.specs.Prelude.{◌≡◌, ◌<◌, ◌≤◌, ◌+◌, ◌*◌, ◌^◌, ◌↔◌, ℕ, List, Option, IfSome, IsTrue, None, Some, if◌then◌else◌, map, length};
+ghost use Rattle.std.specs.Prelude.{◌≡◌, ◌<◌, ◌≤◌, ◌+◌, ◌*◌, ◌^◌, ◌↔◌, ℕ, List, Option, IfSome, IsTrue, None, Some, if◌then◌else◌, map, length, slice_index};
 ghost use Rattle.std.specs.List.{position_from};
 ghost use Rattle.loom_engine.specs.Walk.Path.{advance};
 ghost use Rattle.loom_objects.specs.Tree.Question.{made_of};
@@ -305,34 +305,40 @@ pub fn choice(word: u64) -> Choice
 {
     match bits(word, 0, 2) {
         SCHEDULE => Choice::Thread(drawn_thread(word)),
-        LOAD => Choice::Load(load(word).slot()),
+        LOAD => Choice::Load(drawn_slot(word)),
         _ => Choice::Spurious(answer(word)),
     }
 }
 
 /// `active`, where the thread was drawn.
-// Each status is looked at, whichever thread it is: the end of a shorter search couldn't be foretold.
+// Each status is looked at, whichever thread it is, and nothing is skipped: what is drawn can't be foretold.
 #[inline(always)]
 fn drawn_thread(word: u64) -> Option<u8>
     ensures { result ≡ active_thread (statuses_in word) }
 {
-    let fifth = if_active(status(word, 4), 4, None);
-    let fourth = if_active(status(word, 3), 3, fifth);
-    let third = if_active(status(word, 2), 2, fourth);
-    let second = if_active(status(word, 1), 1, third);
-    if_active(status(word, 0), 0, second)
+    let mut thread = 0u8;
+    let mut is_found = false;
+    'threads: for place in 0..MAX_THREADS {
+        is_found |= status(word, place).is_active();
+        thread += u8::from(!is_found);
+    }
+    if is_found { Some(thread) } else { None }
 }
 
-/// The thread, if this is the status of the choice, or else this one behind it.
+/// The slot of a load's choice, where it was drawn.
+// As in `drawn_thread`.
 #[inline(always)]
-fn if_active(status: Status, thread: u8, behind: Option<u8>) -> Option<u8>
-    ensures { result ≡ (if is_active status then Some thread else behind) }
+fn drawn_slot(word: u64) -> u8
+    ensures { result ≡ slice_index (slots (readable_in word)) (bits word 10 3) }
 {
-    if status.is_active() {
-        Some(thread)
-    } else {
-        behind
+    let place = u64::from(position(word));
+    let mut slot = 0u8;
+    let mut count = 0u64;
+    'slots: for at in 0..MAX_ATOMIC_HISTORY {
+        count += number(may_read(word, at));
+        slot += u8::from(count <= place);
     }
+    if place < count { slot } else { 0 }
 }
 
 #[inline(always)]
