@@ -1,5 +1,5 @@
 //! Draws the choices of a walk's runs (own).
-ghost use Rattle.std.specs.Prelude.{◌≤◌};
+ghost use Rattle.std.specs.Prelude.{◌≤◌, ◌<◌, ◌+◌};
 
 use crate::model::walk::Walk;
 use loom_engine::rt::path::drawing::Chooser;
@@ -49,6 +49,16 @@ impl Drawer {
         }
     }
 
+    /// A number below this one.
+    #[inline(always)]
+    fn below(&mut self, count: usize) -> usize
+        requires { 0 < count }
+        ensures { result < count }
+    {
+        let word = self.rng.next_u64();
+        ((u128::from(word) * count as u128) >> 64) as usize
+    }
+
     /// Before another run.
     pub(crate) fn begin(&mut self) {
         if let Some(priorities) = &mut self.priorities {
@@ -58,66 +68,85 @@ impl Drawer {
 }
 
 impl Chooser for Drawer {
+    #[inline(always)]
     fn thread(&mut self, offers: &Offers) -> Option<u8> {
         if let Some(priorities) = &mut self.priorities {
             return priorities.thread(&mut self.rng, &offers.abilities);
         }
         let able = Options::able(&offers.abilities);
         if able.count > 1 {
-            Some(able.list[self.rng.random_range(0..able.count)])
+            Some(able.at(self.below(able.count)))
         } else {
             offers.default
         }
     }
 
+    #[inline(always)]
     fn slot(&mut self, readable: &[bool; MAX_ATOMIC_HISTORY]) -> u8 {
         let slots = Options::readable(readable);
         if slots.count > 1 {
-            slots.list[self.rng.random_range(0..slots.count)]
+            slots.at(self.below(slots.count))
         } else {
-            slots.list[0]
+            slots.at(0)
         }
     }
 
     fn is_spurious(&mut self) -> bool {
-        self.rng.random_range(0..2usize) == 1
+        self.below(2) == 1
     }
 }
 
-/// Those among which one is drawn: the threads that can go on, or the slots that may be read. They stand in order at the list's
-/// beginning.
+/// Those among which one is drawn: the threads that can go on, or the slots that may be read. In order, each is a byte of the list,
+/// from the low one on.
 #[derive(Clone, Copy)]
 struct Options {
-    list: [u8; MAX_ATOMIC_HISTORY],
+    list: u64,
     count: usize,
 }
 
 impl Options {
     /// The threads that can go on.
+    #[inline(always)]
     fn able(abilities: &[Ability; MAX_THREADS]) -> Options
         ensures { result.count ≤ 5 }
     {
-        let mut list = [0u8; MAX_ATOMIC_HISTORY];
-        let mut count = 0usize;
-        // Each is written and only an option is counted: a test of what can't be foretold would take longer.
+        let mut options = Options { list: 0, count: 0 };
         'able: for thread in 0..MAX_THREADS {
-            list[count] = thread as u8;
-            count += usize::from(abilities[thread] == Ability::Able);
+            options.add(thread, abilities[thread] == Ability::Able);
         }
-        Options { list, count }
+        options
     }
 
     /// The slots that may be read.
+    #[inline(always)]
     fn readable(readable: &[bool; MAX_ATOMIC_HISTORY]) -> Options
         ensures { result.count ≤ 7 }
     {
-        let mut list = [0u8; MAX_ATOMIC_HISTORY];
-        let mut count = 0usize;
+        let mut options = Options { list: 0, count: 0 };
         'slots: for slot in 0..MAX_ATOMIC_HISTORY {
-            list[count] = slot as u8;
-            count += usize::from(readable[slot]);
+            options.add(slot, readable[slot]);
         }
-        Options { list, count }
+        options
+    }
+
+    /// One more, if it is an option.
+    // Without a branch: what can't be foretold would take longer. And an array would be waited for where it is read.
+    #[inline(always)]
+    fn add(&mut self, option: usize, is_option: bool)
+        requires { self.old.count ≤ 7 }
+        ensures { self.new.count ≤ self.old.count + 1 }
+    {
+        let added = if is_option { option as u64 } else { 0 };
+        self.list |= added << (8 * self.count as u32);
+        self.count += usize::from(is_option);
+    }
+
+    /// The option at a place.
+    #[inline(always)]
+    fn at(self, place: usize) -> u8
+        requires { place ≤ 7 }
+    {
+        ((self.list >> (8 * place as u32)) % 256) as u8
     }
 }
 

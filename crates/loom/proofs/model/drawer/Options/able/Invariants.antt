@@ -1,8 +1,8 @@
 use Rattle.std.proofs.Common.{◌≤◌}
 use Rattle.loom.proofs.model.drawer.Options.able.Given as goal
 
--- no more were counted than were written
+-- there are no more than were looked at
 abbrev pub invariant-able : goal.invariant-able
 invariant-able l = record {
-  few : l.count ≤ l.thread;
+  few : l.options.count ≤ l.thread;
 }

@@ -1,8 +1,8 @@
 use Rattle.std.proofs.Common.{◌≤◌}
 use Rattle.loom.proofs.model.drawer.Options.readable.Given as goal
 
--- no more were counted than were written
+-- there are no more than were looked at
 abbrev pub invariant-slots : goal.invariant-slots
 invariant-slots l = record {
-  few : l.count ≤ l.slot;
+  few : l.options.count ≤ l.slot;
 }
