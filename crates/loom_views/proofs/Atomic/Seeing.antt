@@ -15,7 +15,7 @@ use Rattle.loom_views.specs.Orderings.{is_seq_cst}
 use Rattle.loom_views.specs.Versions.{within}
 use Rattle.loom_views.specs.Atomic.Slots.{upto, slot_set, readable_slots}
 use Rattle.loom_views.specs.Atomic.History.{Scene, readable, fails_by_orders}
-use Rattle.loom_views.specs.Atomic.Ring.{HaveOtherOrders, store_at, is_touch_in, is_version_before, is_order_below, is_order_same, is_passed, is_slot_below, is_below_seen, is_same_slot, drops_store, drops_slot}
+use Rattle.loom_views.specs.Atomic.Ring.{HaveOtherOrders, store_at, is_touch_in, is_version_before, is_order_below, is_slot_below, is_below_seen, is_same_slot, drops_store, drops_slot}
 use Rattle.loom_views.specs.Atomic.Shown.{ShowsScene}
 use Rattle.loom_views.proofs.Atomic.Choices.{readable-agree, readable-is, fails-is}
 use Rattle.loom_views.proofs.Atomic.Loops.{any_upto-suc, any_upto-none}

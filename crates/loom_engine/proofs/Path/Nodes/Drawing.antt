@@ -1,5 +1,5 @@
 -- A new schedule at a thread that was drawn: first its default is visited, and then the thread is the choice, which may be the default.
-use Rattle.std.proofs.Common.{◌≡◌, ◌⊎◌, ◌<◌, ℕ, zero, suc, Bool, true, false, List, [], ◌∷◌, length, get_or, map, Option, Some, None, inl, inr, refl, ap, sym, ◌∙◌, subst, arith}
+use Rattle.std.proofs.Common.{◌≡◌, ◌⊎◌, ◌<◌, ℕ, zero, suc, Bool, true, false, cond, List, [], ◌∷◌, length, get_or, map, Option, Some, None, inl, inr, refl, ap, sym, ◌∙◌, subst, arith}
 use Rattle.std.specs.Prelude.{slice_get, slice_set, IfSome, IsSomeAnd}
 use Rattle.loom_objects.specs.declared.choice.Choice.TheVariants.{Thread}
 use Rattle.loom_objects.specs.declared.rt.schedule.Ability.{Ability}
@@ -16,7 +16,8 @@ use Rattle.loom_engine.specs.Trees.Drive.{new_node}
 use Rattle.loom_engine.specs.Walk.Choices.{same}
 use Rattle.loom_engine.specs.Walk.Path.{IsAtRest, Stored, fresh}
 use Rattle.loom_engine.proofs.Nodes.Nodes.Choosing.{chosen_is, chosen_rests}
-use Rattle.loom_engine.proofs.Nodes.Nodes.Statuses.{get_else}
+use Rattle.loom_engine.proofs.Nodes.Nodes.Statuses.{get_else, get_put}
+use Rattle.std.proofs.lemmas.Bool.{false≢true}
 use Rattle.std.proofs.lemmas.List.{length-set}
 use Rattle.loom_engine.proofs.Path.Nodes.Given.{at_default, at_other}
 use Rattle.loom_engine.proofs.Path.Nodes.Making.{fresh_rests, get_map, made_is}
@@ -31,9 +32,17 @@ with_twice None a b l = refl
 with_twice (Some k) a b l = set_twice l k a b
 
 -- a status among those with one that is set
-pub status_other : (o : Option ℕ) (s : Status) (l : List Status) (k : ℕ) → (o ≡ Some k → ⊥) → slice_get (with_status o s l) k ≡ slice_get l k
+status_other : (o : Option ℕ) (s : Status) (l : List Status) (k : ℕ) → (o ≡ Some k → ⊥) → slice_get (with_status o s l) k ≡ slice_get l k
 status_other None s l k f = refl
 status_other (Some j) s l k f = get_else l j k s (λ e. f (ap Some e))
+
+status_same : (o : Option ℕ) (s old : Status) (l : List Status) (k : ℕ) → o ≡ Some k → slice_get l k ≡ Some old → slice_get (with_status o s l) k ≡ Some s
+status_same o s old l k e h = ap (λ (p : Option ℕ). slice_get (with_status p s l) k) e ∙ get_put l k s old h
+
+-- it is set, or isn't
+pub status_set : (o : Option ℕ) (s old : Status) (l : List Status) (k : ℕ) (is : Bool) → (is ≡ true → o ≡ Some k) → (o ≡ Some k → is ≡ true) → slice_get l k ≡ Some old → slice_get (with_status o s l) k ≡ Some (cond is s old)
+status_set o s old l k true given taken h = status_same o s old l k (given refl) h
+status_set o s old l k false given taken h = status_other o s l k (λ e. absurd (false≢true (taken e))) ∙ h
 
 pub stands : (l : List Status) (k : ℕ) (d : Status) → k < length l → slice_get l k ≡ Some (get_or l k d)
 stands [] k d h = absurd (omega arith)

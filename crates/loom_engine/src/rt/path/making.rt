@@ -1,5 +1,5 @@
 //! Making the nodes of a path: each at its default or at a choice that was given, with the options that are to be tried.
-ghost use Rattle.std.specs.Prelude.{◌≡◌, ◌<◌, ◌↔◌, ◌⊎◌, ℕ, List, Option, Some, IfSome, IsSomeAnd, IsTrue, true, slice_get, map, take, length};
+ghost use Rattle.std.specs.Prelude.{◌≡◌, ◌<◌, ◌↔◌, ◌⊎◌, ℕ, List, Option, Some, IfSome, IsSomeAnd, IsTrue, true, slice_get, map, take, length, if◌then◌else◌};
 ghost use Rattle.loom_engine.specs.Trees.Meeting.{is_below};
 ghost use Rattle.std.specs.List.{Contains};
 ghost use Rattle.std.specs.Option.{option_map};
@@ -155,13 +155,25 @@ fn drawn_statuses(
 fn drawn_status(status: Status, thread: u8, default: Option<u8>, chosen: Option<u8>) -> Status
     ensures { (made : List Status) → slice_get made thread ≡ Some status → slice_get (with_statuses chosen Status.Active (with_statuses default Status.Visited made)) thread ≡ Some result }
 {
-    if is_same_thread(chosen, Some(thread)) {
-        Status::Active
-    } else if is_same_thread(default, Some(thread)) {
-        Status::Visited
-    } else {
-        status
-    }
+    let otherwise = status_if(
+        is_same_thread(default, Some(thread)),
+        Status::Visited,
+        status,
+    );
+    status_if(
+        is_same_thread(chosen, Some(thread)),
+        Status::Active,
+        otherwise,
+    )
+}
+
+/// The one status, if that holds, or else the other one.
+// A function of its own, so that no branch is made of it.
+#[inline(always)]
+fn status_if(holds: bool, one: Status, other: Status) -> Status
+    ensures { result ≡ (if holds then one else other) }
+{
+    if holds { one } else { other }
 }
 
 /// The thread, if there is one and it can go on, or else the default.

@@ -1,7 +1,7 @@
-use Rattle.std.proofs.Common.{◌≡◌, ◌<◌, Bool, true, false, length, refl, ap, sym, ◌∙◌, arith}
+use Rattle.std.proofs.Common.{◌≡◌, Bool, true, false, refl, ap, sym, ◌∙◌, arith}
 use Rattle.std.specs.Prelude.{cond}
 use mir.Val.{bool_byte}
-use Rattle.loom_engine.specs.Path.Words.{bit, readable_in}
+use Rattle.loom_engine.specs.Path.Words.{readable_in}
 use Rattle.loom_engine.proofs.Path.Nodes.Below.{bit_is, readable_at, sought_more}
 use Rattle.loom_engine.proofs.rt.path.word.drawn_slot.Goals as goal
 
