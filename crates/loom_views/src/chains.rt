@@ -18,11 +18,14 @@ struct Link {
     before: usize,
 }
 
+// how many chains there are at first
+const FIRST_CHAINS: usize = 256;
+
 impl Chains {
-    /// No numbers yet, for so many chains (own). An error where memory is refused.
-    pub fn new(alloc: Global, chains: usize) -> Result<Chains, AllocError> {
+    /// No numbers yet. An error where memory is refused (own).
+    pub fn new(alloc: Global) -> Result<Chains, AllocError> {
         let mut last = Vec::new(alloc);
-        last.resize(chains, 0)?;
+        last.resize(FIRST_CHAINS, 0)?;
         Ok(Chains {
             links: Vec::new(alloc),
             last,
@@ -39,13 +42,41 @@ impl Chains {
 
     /// One number more, which has this digest. An error where memory is refused (own).
     pub fn add(&mut self, digest: u64) -> Result<(), AllocError> {
-        let chain = self.chain_of(digest);
-        let before = self.last_of(chain);
+        let number = self.links.len();
+        if 0 < self.last.len() && self.last.len() <= number {
+            self.spread()?;
+        }
+        let before = self.put_last(digest, number);
         self.links.push(Link { digest, before })?;
-        if let Some(last) = self.last.get_mut(chain) {
-            *last = self.links.len();
+        Ok(())
+    }
+
+    /// The numbers are spread over twice as many chains. An error where memory is refused.
+    fn spread(&mut self) -> Result<(), AllocError> {
+        let chains = self.last.len().saturating_mul(2);
+        self.last.clear();
+        self.last.resize(chains, 0)?;
+        for number in 0..self.links.len() {
+            let digest = self.digest(number);
+            let before = self.put_last(digest, number);
+            if let Some(link) = self.links.get_mut(number) {
+                link.before = before;
+            }
         }
         Ok(())
+    }
+
+    /// This number, which has this digest, is the last one of its chain: behind this one, counted from 1, or 0.
+    fn put_last(&mut self, digest: u64, number: usize) -> usize {
+        let chain = self.chain_of(digest);
+        match self.last.get_mut(chain) {
+            Some(last) => {
+                let before = *last;
+                *last = number.saturating_add(1);
+                before
+            }
+            None => 0,
+        }
     }
 
     /// The digest of this number, or 0 where it wasn't added (own).

@@ -44,15 +44,15 @@ pub struct Shelf<T> {
     chains: Chains,
 }
 
-// how many chains a shelf has
-const CHAINS: usize = 256;
+/// With so many values of one digest a value is compared: with those that were put there last. Then it is put there once more.
+pub const MOST_COMPARED: usize = 16;
 
 impl<T: Drop> Shelf<T> {
     /// Nothing yet. An error where memory is refused (own).
     pub fn new(alloc: Global) -> Result<Shelf<T>, AllocError> {
         Ok(Shelf {
             values: Vec::new(alloc),
-            chains: Chains::new(alloc, CHAINS)?,
+            chains: Chains::new(alloc)?,
         })
     }
 
@@ -62,11 +62,6 @@ impl<T: Drop> Shelf<T> {
             values: Vec::new(alloc),
             chains: Chains::none(alloc),
         }
-    }
-
-    /// How many values were put on it (own).
-    pub fn len(&self) -> usize {
-        self.values.len()
     }
 
     /// The value of this number, counted from 0, if there is one (own).
@@ -107,12 +102,12 @@ impl<T: Drop + Same> Shelf<T> {
         }
     }
 
-    /// The value that is the same, if one of this digest is.
+    /// A value that is the same, if one of this digest is found.
     fn find(&self, value: &T, digest: u64) -> Option<&Shared<T>>
         ensures { IfSome result (λ shared. shared.now ≡ value.now) }
     {
         let mut next = self.last(digest);
-        for _ in 0..self.len() {
+        for _ in 0..MOST_COMPARED {
             let number = next?;
             let shared = self.get(number)?;
             if shared.get().is_same(value) {

@@ -153,9 +153,6 @@ pub(crate) fn copied_bodies<B: Body>(alloc: Global, bodies: &[B]) -> Result<Sequ
     Ok(Sequence::from_vec(copy))
 }
 
-// how many chains there are of states
-const CHAINS: usize = 8_192;
-
 /// The states that a search has noted, at most so many of them, each with the choices by which a run came to it. Where no more may be,
 /// none is noted, and those that were are still found. Of a body that is known never to switch whether the search explores they are told
 /// apart by less (own).
@@ -190,7 +187,7 @@ impl<D: Data + Same, B: Body + Same> States<D, B> {
         Ok(States {
             states: Sequence::new(alloc),
             led_by: Sequence::new(alloc),
-            chains: Chains::new(alloc, CHAINS)?,
+            chains: Chains::new(alloc)?,
             shelves: Shelves::new(alloc)?,
             spare: None,
             most,

@@ -13,7 +13,7 @@ use loom_views::rt::views::ranked::noted::{NotedViews, ViewShelf};
 use loom_views::rt::vv::mixed;
 use loom_views::same::Same;
 use loom_views::sequence::Sequence;
-use loom_views::shelf::{Shared, Shelf};
+use loom_views::shelf::{MOST_COMPARED, Shared, Shelf};
 use std::alloc::{AllocError, Global};
 
 /// Threads, objects, bodies and parts of views, each once. How far its threads are tells where a part is found again.
@@ -128,7 +128,7 @@ fn shared_list<T: Kept>(
     }
 }
 
-/// The list of these values and this digest, if there is one.
+/// A list of these values and this digest, if one is found.
 fn find_list<'a, T: Kept>(
     shelf: &'a Shelf<Sequence<T>>,
     values: &[T],
@@ -137,7 +137,7 @@ fn find_list<'a, T: Kept>(
     ensures { IfSome result (λ list. list.now ≡ values.now) }
 {
     let mut next = shelf.last(digest);
-    for _ in 0..shelf.len() {
+    for _ in 0..MOST_COMPARED {
         let number = next?;
         let list = shelf.get(number)?;
         if are_equal(list.get().as_slice(), values) {
