@@ -161,6 +161,14 @@ touch_next R vs ws more n v w l so_far at pairs put others t less = ⊎_elim
     (λ d. subst (λ o. PairsCounts R t (get_or vs t None) o) (sym (others t (omega arith) d)) (so_far t (omega arith)))
     (cases_eq t n)
 
+-- one that isn't there stays so
+pub touch_none : (R : ℕ → ℕ → ℕ → Type 0) (vs ws : List (Option ℕ)) (n : ℕ) → ((t : ℕ) → t < n → PairsCounts R t (get_or vs t None) (get_or ws t None)) → get_or vs n None ≡ None → get_or ws n None ≡ None
+    → (t : ℕ) → t < n + 1 → PairsCounts R t (get_or vs t None) (get_or ws t None)
+touch_none R vs ws n so_far none left t less = ⊎_elim
+    (λ e. subst (λ k. PairsCounts R k (get_or vs k None) (get_or ws k None)) (sym e) (subst (λ o. PairsCounts R n (get_or vs n None) o) (sym left) (subst (λ o. PairsCounts R n o None) (sym none) tt)))
+    (λ d. so_far t (omega arith))
+    (cases_eq t n)
+
 -- ---- lists, one beside the other
 
 pub pair_none : {X : Type 0} (R : ℕ → ℕ → ℕ → Type 0) (Pairs : X → X → Type 0) → PairAll R Pairs [] []

@@ -1,7 +1,7 @@
 //! The counts of views by their ranks: of each thread's counts that stand somewhere in them, how many others are below. Rules see no
 //! more of counts than their order, so views that are the same by their ranks are the same to them (own).
 
-ghost use Rattle.std.specs.Prelude.{ℕ, ◌≡◌, ◌∷◌, [], ◌++◌, ◌<◌, ◌≤◌, IfOk, IfSome, IsTrue, OnOk, Some, map, slice_get};
+ghost use Rattle.std.specs.Prelude.{ℕ, ◌≡◌, ◌∷◌, [], ◌++◌, ◌<◌, ◌≤◌, IfOk, IfSome, IsTrue, OnOk, Some, map, replicate, slice_get};
 ghost use Rattle.loom_views.specs.InOrder.{AreBelow, AreRising, IsRising, PairsCounts, Ranked, rank_of};
 ghost use Rattle.loom_views.specs.Limits.{highest_version};
 
@@ -14,13 +14,13 @@ use std::marker::Model;
 // counts below this have ranks
 const RANKED: usize = 512;
 
-// of each thread so many words, with a bit for each of these counts
-const WORDS: usize = 8;
-
-const ALL_WORDS: usize = 40;
-
-// so many counts a word; the ranks of those of the first one take no memory
+// so many counts a word has bits for; the ranks of the first ones take no memory
 const BITS: usize = 64;
+
+// of each thread so many words for the counts behind the first ones
+const WORDS: usize = 7;
+
+const ALL_WORDS: usize = 35;
 
 // what stands for no rank: a number above all ranks
 const NO_RANK: u16 = u16::MAX;
@@ -28,32 +28,43 @@ const NO_RANK: u16 = u16::MAX;
 /// Which counts of each thread stand somewhere in some views, of those below 512 (own).
 #[derive(Drop)]
 pub struct Standing {
-    // those of one thread behind those of the thread before it
-    stands: [u64; ALL_WORDS],
-    // none stands from here on
+    // of each thread a bit for each of the first counts
+    first: [u64; MAX_THREADS],
+    // those behind them, of one thread behind those of the thread before it
+    further: [u64; ALL_WORDS],
+    // none of them stands from here on
     end: usize,
 }
 
 impl Standing {
     /// The count 0 of each thread, which stands wherever nothing has come (own).
     pub fn new() -> Standing {
-        let mut standing = Standing {
-            stands: [0; ALL_WORDS],
-            end: 0,
-        };
-        for thread in 0..MAX_THREADS {
-            standing.add(thread, 0);
+        Standing {
+            first: [1; MAX_THREADS],
+            further: [0; ALL_WORDS],
+            end: BITS,
         }
-        standing
     }
 
     /// A count of a thread stands too (own).
     pub fn add(&mut self, thread: usize, count: u16) {
         let place = usize::from(count);
-        if thread >= MAX_THREADS || place >= RANKED {
+        if thread >= MAX_THREADS {
             return;
         }
-        self.stands[thread * WORDS + place / BITS] |= 1 << (place % BITS);
+        if place < BITS {
+            self.first[thread] |= 1 << place;
+            return;
+        }
+        self.add_further(thread, place);
+    }
+
+    /// So does one behind the first ones.
+    fn add_further(&mut self, thread: usize, place: usize) {
+        if thread >= MAX_THREADS || place < BITS || place >= RANKED {
+            return;
+        }
+        self.further[thread * WORDS + place / BITS - 1] |= 1 << (place % BITS);
         if self.end <= place {
             self.end = place + 1;
         }
@@ -72,17 +83,31 @@ impl Standing {
             return;
         }
         let counts = view.versions();
+        let [main, first, second, third, fourth] = counts;
+        if usize::from(main | first | second | third | fourth) >= BITS {
+            self.add_each(&counts);
+            return;
+        }
+        self.first[0] |= 1 << (usize::from(main) % BITS);
+        self.first[1] |= 1 << (usize::from(first) % BITS);
+        self.first[2] |= 1 << (usize::from(second) % BITS);
+        self.first[3] |= 1 << (usize::from(third) % BITS);
+        self.first[4] |= 1 << (usize::from(fourth) % BITS);
+    }
+
+    /// So does a count of each thread.
+    fn add_each(&mut self, counts: &[u16; MAX_THREADS]) {
         for thread in 0..MAX_THREADS {
             self.add(thread, counts[thread]);
         }
     }
 
-    /// Whether a count of a thread stands.
+    /// Whether a count of a thread stands, one behind the first ones.
     fn stands(&self, thread: usize, count: usize) -> bool {
-        if thread >= MAX_THREADS || count >= RANKED {
+        if thread >= MAX_THREADS || count < BITS || count >= RANKED {
             return false;
         }
-        (self.stands[thread * WORDS + count / BITS] >> (count % BITS)) % 2 == 1
+        (self.further[thread * WORDS + count / BITS - 1] >> (count % BITS)) % 2 == 1
     }
 
     /// The ranks of these counts. An error where memory is refused (own).
@@ -107,7 +132,8 @@ impl Standing {
         requires { thread < 5 }
         ensures { IfOk result (λ ranks. AreRising ranks) }
     {
-        let (first, next) = first_ranks(self.stands[thread * WORDS]);
+        let mut first = [NO_RANK; BITS];
+        let next = rank_first(self.first[thread], &mut first);
         let mut ranks = ThreadRanks::new(alloc, first);
         self.rank_further(thread, next, &mut ranks)?;
         Ok(ranks)
@@ -137,12 +163,12 @@ impl Standing {
     }
 }
 
-/// The ranks of those of the first counts that stand, which these bits say, and how many they are.
-fn first_ranks(stands: u64) -> ([u16; BITS], u16)
-    ensures rising { AreRising (map rank_of result.0) }
-    ensures below { AreBelow result.1 (map rank_of result.0) }
+/// Ranks those of the first counts that stand, which these bits say, where none has a rank. How many they are.
+fn rank_first(stands: u64, ranks: &mut [u16; BITS]) -> u16
+    requires none { ranks.old ≡ replicate 64 65535 }
+    ensures rising { AreRising (map rank_of ranks.new) }
+    ensures below { AreBelow result (map rank_of ranks.new) }
 {
-    let mut ranks = [NO_RANK; BITS];
     let mut next = 0u16;
     let mut count = next_standing(stands, 0);
     while count < BITS {
@@ -150,7 +176,7 @@ fn first_ranks(stands: u64) -> ([u16; BITS], u16)
         next += 1;
         count = next_standing(stands, count + 1);
     }
-    (ranks, next)
+    next
 }
 
 /// From this count on the first of those that these bits say, or one that they don't speak of.

@@ -116,8 +116,10 @@ impl Touches {
         }
         let mut ranked = *self;
         for thread in 0..MAX_THREADS {
-            let rank = ranks.rank_optional(thread, self.at(thread))?;
-            ranked.put(thread, rank);
+            if let Some(version) = self.at(thread) {
+                let rank = ranks.rank(thread, version)?;
+                ranked.put(thread, Some(rank));
+            }
         }
         Some(ranked)
     }

@@ -1,12 +1,12 @@
 use Rattle.std.proofs.Common.{arith, refl, ℕ}
 use Rattle.std.proofs.lemmas.List.{length-set}
 use Rattle.loom_views.proofs.Ranks.{first_next, none_first}
-use Rattle.loom_views.proofs.rt.ranks.first_ranks.Goals as goal
+use Rattle.loom_views.proofs.rt.ranks.rank_first.Goals as goal
 
 pub loop-count-init : goal.loop-count-init
 loop-count-init c =
     let none = none_first 0 c.next_standing-count.result in
-    record { size = refl; few = omega arith; rising = none.0; below = none.1; before = none.2 }
+    rw c.requires.none (record { size = refl; few = omega arith; rising = none.0; below = none.1; before = none.2 })
 
 pub loop-count-preserved : goal.loop-count-preserved
 loop-count-preserved c =
