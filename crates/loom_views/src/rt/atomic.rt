@@ -116,8 +116,7 @@ impl State {
         requires { i < 7 }
         ensures { result ≡ is_order_seen self.now.stores view.now left_out i }
     {
-        // No test is left out: what would be skipped can't be foretold.
-        (left_out != Some(i)) & self.stores[i].first_seen.is_seen_from(view)
+        left_out != Some(i) && self.stores[i].first_seen.is_seen_from(view)
     }
 
     /// An order with those of the kept stores that are seen in a view, but for a slot that is left out.
@@ -131,7 +130,9 @@ impl State {
     {
         let mut joined = order;
         for i in 0..self.kept() {
-            joined.join_if(&self.stores[i].order, self.is_order_seen(view, left_out, i));
+            if self.is_order_seen(view, left_out, i) {
+                joined.join(&self.stores[i].order);
+            }
         }
         joined
     }
@@ -141,7 +142,7 @@ impl State {
         requires { i < 7 }
         ensures { result ≡ is_slot_above before.now self.now.stores left_out i }
     {
-        (i != left_out) & before.is_within(&self.stores[i].order)
+        i != left_out && before.is_within(&self.stores[i].order)
     }
 
     /// Each kept store but the one in a slot takes in an order, where its own contains what that one's order was before.
@@ -149,8 +150,9 @@ impl State {
         ensures { self.new ≡ record self.old { stores = raised_above self.old.stores self.old.count slot before.now order.now } }
     {
         for i in 0..self.kept() {
-            let is_above = self.is_above(before, slot, i);
-            self.stores[i].order.join_if(order, is_above);
+            if self.is_above(before, slot, i) {
+                self.stores[i].order.join(order);
+            }
         }
     }
 
