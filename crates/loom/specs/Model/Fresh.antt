@@ -4,8 +4,7 @@
 -- for (`Reachable`, `marking`). The runs that the visitor was given (`WasGiven`) are as many as the report counts, and
 -- `IsCompleteReport`, `IsStoppedReport` or `IsFailedReport` is what the report says of them (their records are in
 -- `loom_engine/specs/Trees/Reported.antt`). What a replay does is `Replays`.
--- None says that reduction or a bound leaves no failure out. `Check.antt` says this of the calls, and of checks that begin with a
--- path.
+-- None says that reduction or a bound leaves no failure out. `Check.antt` speaks of the calls, and of checks that begin with a path.
 use Rattle.std.specs.Prelude.{◌≡◌, ℕ, List, [], ◌∷◌, Some, Result, Ok, Err, length}
 use Rattle.loom_views.specs.declared.rt.failure.FailureKind.{FailureKind}
 use Rattle.loom_objects.specs.declared.choice.Choice.{Choice}
@@ -27,8 +26,7 @@ module _ {D : Type 0} (s : Settings) (tree : Tree D) where
   abbrev pub machine : Machine
   machine = machine_of s (marking s.bound) tree
 
-  -- What is known of a check that is complete, with the choices and the value of each run: these are the reachable runs, each
-  -- once, and none of them fails.
+  -- what is known of a complete check, with each run's choices and value: these are the reachable runs, each once; none fails
   abbrev pub IsCompleteReport : List (List Choice × D) → Type 0
   IsCompleteReport runs = HasCompleted s (marking s.bound) tree runs
 
@@ -36,8 +34,7 @@ module _ {D : Type 0} (s : Settings) (tree : Tree D) where
   abbrev pub IsStoppedReport : List (List Choice × D) → Type 0
   IsStoppedReport runs = WasStopped s (marking s.bound) tree runs
 
-  -- what is known of a check in which the run with these choices failed, after the others: it is a reachable run, and its choices
-  -- lead to the failure again
+  -- what is known where the run with these choices failed after the others: it is reachable, and they lead to the failure again
   abbrev pub IsFailedReport : List (List Choice × D) → FailureKind → List Choice → Type 0
   IsFailedReport runs failure failing = HasFailed s (marking s.bound) tree runs failure failing
 
