@@ -65,7 +65,6 @@ use Rattle.loom.specs.Model.Fresh.{Given}
 use Rattle.loom.specs.Model.Settings.{explores}
 use Rattle.loom.proofs.ModelLemmas.Checking.{given_more, one_longer, take_all}
 use Rattle.loom.proofs.ModelLemmas.CoverFrom.{LieOff, has_behind, lost_among, notes_off, notes_well, off_new, off_still, one_behind, with_table}
-use Rattle.loom.proofs.ModelLemmas.CoverSnapshots.{left_stepped}
 use Rattle.loom.proofs.ModelLemmas.CoverTexts.{same_stored}
 
 less_or_not : (a b : ℕ) → (a < b) ⊎ (b ≤ a)
@@ -240,15 +239,6 @@ module _ {V D S : Type 0} (b : Builder) (next : Meaning D S) (body : S) (takes :
         → AreLeft next b.max_branches (explores b) b.max_threads b.max_steps body path.nodes list → AreLeft next path.search.max_branches path.explores threads steps body path.nodes list
     left_before path threads steps noted list e f rests h =
         subst (λ (r : Noting D S). AreLeft next r.room r.explores r.max_threads r.max_steps body path.nodes list) (sym (same_noting path threads steps noted e f rests)) h
-
-    -- and at the next run
-    pub left_on : (ending : Ending D) (after later : Route) (list : List (Snapshot D S)) (stepped : Bool) → Steps after.nodes stepped later.nodes → stepped ≡ true → ((failure : Failure) → ending ≡ end.Failed failure → ⊥)
-        → AreLeftAfter next b.max_branches (explores b) b.max_threads b.max_steps body ending after.nodes list → AreLeft next b.max_branches (explores b) b.max_threads b.max_steps body later.nodes list
-    left_on (end.Ended value) after later list stepped steps is well h =
-        left_stepped next b.max_branches (explores b) b.max_threads b.max_steps body after.nodes later.nodes list (subst (λ (x : Bool). Steps after.nodes x later.nodes) is steps) h
-    left_on (end.Met number) after later list stepped steps is well h =
-        left_stepped next b.max_branches (explores b) b.max_threads b.max_steps body after.nodes later.nodes list (subst (λ (x : Bool). Steps after.nodes x later.nodes) is steps) h
-    left_on (end.Failed failure) after later list stepped steps is well h = absurd (well failure refl)
 
     -- ---- rounds
 

@@ -1,5 +1,5 @@
 -- A run that notes states, and goes on from where an earlier one stood; and what is kept of runs on their way.
-use Rattle.std.proofs.Common.{◌≡◌, ◌≤◌, ◌<◌, ◌⊎◌, ℕ, arith, Bool, List, [], ◌∷◌, ◌++◌, length, map, take, Some, None, ap, sym, ◌∙◌, subst, inl, inr, suc, false, Result, Ok, Err, refl}
+use Rattle.std.proofs.Common.{◌≡◌, ◌≤◌, ◌<◌, ◌⊎◌, ℕ, arith, Bool, List, [], ◌∷◌, ◌++◌, length, map, take, Some, None, ap, sym, ◌∙◌, subst, inl, inr, suc, true, false, Result, Ok, Err, refl}
 use Rattle.std.proofs.lemmas.List.Elements.{All-cons, All-nil, All-push, All-take}
 use Rattle.std.proofs.lemmas.List.{length-map, length-take-le}
 use Rattle.std.specs.Prelude.{All, slice_index_or, IfOk, slice_get, ⊤}
@@ -9,6 +9,7 @@ use Rattle.loom_objects.specs.Operation.Plain.{plain}
 use Rattle.loom_objects.specs.Scene.Shown.{Shows}
 use Rattle.loom_objects.specs.Tree.Question.{Made}
 use Rattle.loom_objects.specs.declared.choice.Choice.{Choice}
+use Rattle.loom_objects.specs.declared.failure.Failure.{Failure}
 use Rattle.loom_objects.specs.declared.failure.Stop.TheVariants.{Failure as Because, Memory}
 use Rattle.loom_objects.specs.declared.failure.Stop.{Stop}
 use Rattle.loom_objects.specs.declared.operation.Request.{Request}
@@ -21,6 +22,7 @@ use Rattle.loom_engine.specs.Covering.UnderWay.{StoodAt}
 use Rattle.loom_engine.specs.Execution.{ExecutionState, ShowsCourse, Schedules}
 use Rattle.loom_engine.specs.Path.Nodes.{seen}
 use Rattle.loom_engine.specs.Path.Route.{Route, stored, trail}
+use Rattle.loom_engine.specs.Path.Steps.{Steps}
 use Rattle.loom_engine.specs.Path.Tallies.{Tallies}
 use Rattle.loom_engine.specs.Runs.Body.{Meaning}
 use Rattle.loom_engine.specs.Runs.Course.{Course}
@@ -78,6 +80,13 @@ module _ {D S : Type 0} (next : Meaning D S) (room : ℕ) (explores : Bool) (max
       let z = h k d l (omega (arith, m, fewer, a, b)) in
       let size = z.2.passed in
       (z.0, begins_stepped z.0 (stored nodes) (stored later) z.1 e (omega (arith, m, b, size)), z.2)
+
+  -- it does after a run that didn't fail
+  pub left_on : (ending : Ending D) (nodes later : List Node) (list : List (Snapshot D S)) (stepped : Bool) → Steps nodes stepped later → stepped ≡ true → ((failure : Failure) → ending ≡ Failed failure → ⊥)
+      → AreLeftAfter next room explores max_threads max_steps body ending nodes list → AreLeft next room explores max_threads max_steps body later list
+  left_on (Ended value) nodes later list stepped steps is well h = left_stepped nodes later list (subst (λ (x : Bool). Steps nodes x later) is steps) h
+  left_on (Met number) nodes later list stepped steps is well h = left_stepped nodes later list (subst (λ (x : Bool). Steps nodes x later) is steps) h
+  left_on (Failed failure) nodes later list stepped steps is well h = absurd (well failure refl)
 
   -- the path fits them
   fits_one : (path : Route) (kept : Snapshot D S) → IsKept next room explores max_threads max_steps body path.nodes kept → Fits path kept

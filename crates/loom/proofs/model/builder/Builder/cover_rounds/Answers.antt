@@ -7,8 +7,8 @@ use Rattle.loom_objects.specs.declared.failure.Failure.{Failure}
 use Rattle.loom.specs.declared.model.cover.run.Ending.TheVariants as end
 use Rattle.loom.specs.Model.Covered.{IsToldBy}
 use Rattle.loom.specs.Model.Settings.{explores}
-use Rattle.loom.proofs.ModelLemmas.CoverRounds.{HasAdded, HasRun, checking_fails, checking_kept, checking_left, checking_starts, checking_stops, left_after, left_before, left_late, left_on, no_cover_beginning, ran_alone, run_ended, run_met}
-use Rattle.loom.proofs.ModelLemmas.CoverSnapshots.{none_left}
+use Rattle.loom.proofs.ModelLemmas.CoverRounds.{HasAdded, HasRun, checking_fails, checking_kept, checking_left, checking_starts, checking_stops, left_after, left_before, left_late, no_cover_beginning, ran_alone, run_ended, run_met}
+use Rattle.loom.proofs.ModelLemmas.CoverSnapshots.{left_on, none_left}
 use Rattle.loom.proofs.ModelLemmas.Errors.{on_error, uncounted}
 use Rattle.loom.proofs.model.builder.Builder.cover_rounds.Goals.{in-Ended+in_ok-receive-in-Ended, in-Met}
 use Rattle.loom.proofs.model.builder.Builder.cover_rounds.Goals as goal
@@ -244,7 +244,7 @@ loop-limit-preserved g c =
       few = omega (arith, kept.2);
       within = within;
       checking = has.on c.step.new.self c.step.result c.step.ensures.steps (search rules) c.step.ensures.rest c.run.ensures.same;
-      left = left_on b g.B.Body.next c.args.body.now g.R.Receiver.receives c.args.receiver.now here.start came after c.step.new.self c.run.new.room.snapshots c.step.result c.step.ensures.steps (search rules) well
+      left = left_on g.B.Body.next b.max_branches (explores b) b.max_threads b.max_steps c.args.body.now came after.nodes c.step.new.self.nodes c.run.new.room.snapshots c.step.result c.step.ensures.steps (search rules) well
           (left_after b g.B.Body.next c.args.body.now g.R.Receiver.receives c.args.receiver.now here.start path c.limits.result.max_threads c.limits.result.max_steps c.args.known.now noted came after c.run.new.room.snapshots c.limits.ensures.threads
           c.limits.ensures.steps here.covering.rests c.requires.unknown here.covering.explained c.in_ok-value.ensures.left);
       faultless = c.in_ok-until_save.ensures.faults ∙ z.faultless;
