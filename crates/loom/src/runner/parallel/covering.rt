@@ -107,17 +107,12 @@ where
         runs += turn.runs;
         met += turn.met;
         if let Some(lost) = turn.lost {
-            let Lost {
-                failure,
-                choices,
-                ..
-            } = lost;
             return Ok(Covered::Failed {
                 runs,
                 met,
                 states: states.len(),
-                failure,
-                choices,
+                failure: lost.failure,
+                choices: lost.choices,
             });
         }
         cut_up(alloc, parts, sharing.count)?;
