@@ -432,6 +432,8 @@ fn mark<D: Data>(run: &Progress<D>, path: &mut Path)
 }
 
 /// Marks are made for the last accesses that what is pending depends on and isn't ordered after.
+// Not inlined, so that a schedule is small enough for what it passes to be inlined into it.
+#[inline(never)]
 fn mark_unordered<D: Data>(run: &Progress<D>, path: &mut Path)
     requires { path.old.search.reduce ≡ true }
     ensures marks { IsMarked run.now path.old path.new }
