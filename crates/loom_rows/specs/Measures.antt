@@ -1,5 +1,5 @@
 -- What is printed of checks of the body that a name means.
-use Rattle.std.specs.Prelude.{ℕ, ◌≡◌, List, ◌++◌, Option, Some, codes, map}
+use Rattle.std.specs.Prelude.{ℕ, ◌≡◌, List, ◌++◌, Option, Some, Bool, true, false, codes, map}
 use Rattle.std.specs.Io.KnownBytes.{Appends}
 use Rattle.std.specs.List.{find}
 use Rattle.std.specs.Str.{bytes_eq}
@@ -44,11 +44,16 @@ PrintedNamed name old new status =
     × ReportsScript body.steps (builder_of body.settings) report
     × PrintedLine name report old new status
 
--- the name means a body, and what was written is of a check of it that remembers states, with its settings
-abbrev pub PrintedCover : List Measured → List ℕ → Option (List ℕ) → Option (List ℕ) → ℕ → Type 0
-PrintedCover bodies name old new status =
+-- the words behind the name of a body that is covered, with snapshots or without
+abbrev pub cover_words : Bool → List ℕ
+cover_words true = codes " cover snapshots"
+cover_words false = codes " cover"
+
+-- The name means a body, and what was written is of a check of it that remembers states, with its settings, which makes snapshots or none.
+abbrev pub PrintedCover : List Measured → List ℕ → Bool → Option (List ℕ) → Option (List ℕ) → ℕ → Type 0
+PrintedCover bodies name snapshots old new status =
     (body : Measured) × (covered : Covered)
     × (body_of bodies name ≡ Some body)
-    × CoveringAlone (builder_of body.settings) next_of (started (map written body.steps.now)) covered
+    × CoveringAlone (record (builder_of body.settings) { snapshots = snapshots }) next_of (started (map written body.steps.now)) covered
     × (status ≡ covered_status covered)
-    × Appends old new (name ++ codes " cover " ++ covered_text covered ++ codes "\n")
+    × Appends old new (name ++ cover_words snapshots ++ codes " " ++ covered_text covered ++ codes "\n")

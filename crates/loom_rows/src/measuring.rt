@@ -25,7 +25,7 @@ use std::thread::Threads;
 use std::time::{Duration, Instant};
 
 /// What is checked where no word names a body: what takes seconds.
-static QUICK: [&str; 29] = [
+static QUICK: [&str; 30] = [
     "store_buffering",
     "store_buffering bound 1",
     "store_buffering bound 2",
@@ -52,6 +52,7 @@ static QUICK: [&str; 29] = [
     "three_adds reduced bound 2",
     "three_threads reduced",
     "three_threads cover",
+    "three_threads cover snapshots",
     "stores_apart",
     "store_buffering closures",
     "store_buffering closures recorded",
@@ -118,7 +119,7 @@ fn check_closures<R: AllocGlobal + Clock + Files + Threads + Wait + Clone + Send
     found
 }
 
-/// Covers the body of this name, if `cover` stands behind it, or checks it, and answers the exit status.
+/// Covers the body of this name, if `cover` or `cover snapshots` stands behind it, or checks it, and answers the exit status.
 fn measure_body<R: AllocGlobal + Clock + Files, O: Write, E: Write>(
     rt: &R,
     name: &str,
@@ -126,9 +127,9 @@ fn measure_body<R: AllocGlobal + Clock + Files, O: Write, E: Write>(
     err: &mut E,
 ) -> io::Result<u8> {
     match covered_name(name) {
-        Some(body) => {
+        Some((body, snapshots)) => {
             let bodies = all_bodies(rt.alloc())?;
-            measure_cover(rt, bodies.as_slice(), body, out, err)
+            measure_cover(rt, bodies.as_slice(), body, snapshots, out, err)
         }
         None => measure_named(rt, name, out, err),
     }

@@ -115,6 +115,9 @@ const NO_SPLIT: &str =
 const ONE_COVERS: &str =
     "usage: loom_rows NAME [FILE]\nerror: one worker covers a row of closures\n\nFor the options try '--help', and for the names '--list'.\n";
 
+const NO_SNAPSHOTS: &str =
+    "usage: loom_rows NAME [FILE]\nerror: '--snapshots' isn't for rows of closures\n\nFor the options try '--help', and for the names '--list'.\n";
+
 /// What words with options ask for, what is printed of it on standard output and on standard error, and the status. It is what is printed
 /// of any other row.
 struct Said {
@@ -124,7 +127,7 @@ struct Said {
     status: u8,
 }
 
-static SAID: [Said; 20] = [
+static SAID: [Said; 21] = [
     Said {
         words: &["--explain", "relaxed_ring_closures"],
         out: texts::relaxed_ring_closures::TEXT,
@@ -213,6 +216,12 @@ static SAID: [Said; 20] = [
         words: &["--cover", "--jobs", "2", "lock_beside_closures"],
         out: "",
         err: ONE_COVERS,
+        status: 2,
+    },
+    Said {
+        words: &["--cover", "--snapshots", "lock_beside_closures"],
+        out: "",
+        err: NO_SNAPSHOTS,
         status: 2,
     },
     Said {

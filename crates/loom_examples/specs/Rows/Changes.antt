@@ -15,4 +15,5 @@ changed c b = record b {
   preemption_bound = option_or c.preemption_bound b.preemption_bound;
   checkpoint_interval = unwrap_or c.checkpoint_interval b.checkpoint_interval;
   expect_explicit_explore = unwrap_or c.expect_explicit_explore b.expect_explicit_explore;
+  snapshots = unwrap_or c.snapshots b.snapshots;
 }

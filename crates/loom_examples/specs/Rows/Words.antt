@@ -22,7 +22,7 @@ meant_by rows words = None
 -- the names of the program's options
 abbrev pub option_names : List (List ℕ)
 option_names =
-    codes "help" ∷ codes "explain" ∷ codes "svg" ∷ codes "mermaid" ∷ codes "replay" ∷ codes "rising" ∷ codes "walk" ∷ codes "walk-depth" ∷ codes "cover" ∷ codes "states" ∷ codes "recorded" ∷ codes "shorten" ∷ codes "jobs" ∷ codes "split" ∷ codes "part" ∷ codes "gather" ∷ codes "json" ∷ codes "list" ∷ codes "tour" ∷
+    codes "help" ∷ codes "explain" ∷ codes "svg" ∷ codes "mermaid" ∷ codes "replay" ∷ codes "rising" ∷ codes "walk" ∷ codes "walk-depth" ∷ codes "cover" ∷ codes "states" ∷ codes "snapshots" ∷ codes "recorded" ∷ codes "shorten" ∷ codes "jobs" ∷ codes "split" ∷ codes "part" ∷ codes "gather" ∷ codes "json" ∷ codes "list" ∷ codes "tour" ∷
     codes "measure" ∷ codes "max-threads" ∷ codes "max-branches" ∷ codes "max-steps" ∷ codes "max-permutations" ∷
     codes "max-duration" ∷ codes "preemption-bound" ∷ codes "checkpoint-interval" ∷ codes "reduce" ∷
     codes "no-reduce" ∷ codes "explicit-explore" ∷ []

@@ -21,6 +21,8 @@ use std::rt::{Clock, Files};
 use std::sync::Wait;
 use std::thread::Threads;
 
+const NO_SNAPSHOTS: &str = "error: '--snapshots' isn't for rows of closures";
+
 /// Does what is asked of a row of closures, by the settings of this builder where neither the words nor the row name others. Prints what
 /// comes of it, and answers the exit status. The log hears of a walk.
 pub fn run_asked<R: Host + Clock + Sync, L: Log + Clone + Send + 'static, O: Write, E: Write>(
@@ -32,8 +34,8 @@ pub fn run_asked<R: Host + Clock + Sync, L: Log + Clone + Send + 'static, O: Wri
     out: &mut O,
     err: &mut E,
 ) -> io::Result<u8> {
-    if asked.share.is_some() {
-        return refuse(err, "error: only the program shares a check out");
+    if let Some(cause) = refusal(&asked) {
+        return refuse(err, cause);
     }
     let builder = row.builder_with(rt.alloc(), builder, asked.file)?;
     let mut builder = asked.changes.change(builder);
@@ -41,9 +43,6 @@ pub fn run_asked<R: Host + Clock + Sync, L: Log + Clone + Send + 'static, O: Wri
     builder.max_different = Some(MOST_DIFFERENT);
     if let Some(walk) = asked.walk {
         return walk_through(rt, log, row, &builder, walk, asked, out, err);
-    }
-    if asked.covers.is_some() && asked.jobs.is_some() {
-        return refuse(err, ONE_COVERS);
     }
     if let Some(most_states) = asked.covers {
         return cover_through(rt, row, &builder, most_states, asked, out, err);
@@ -62,6 +61,19 @@ pub fn run_asked<R: Host + Clock + Sync, L: Log + Clone + Send + 'static, O: Wri
             do_task(rt, row, &builder, task, asked, out, err)
         }
         Err(error) => refuse_choices(rt.alloc(), text, error, err),
+    }
+}
+
+// Why what is asked for isn't done with a row of closures, if it isn't.
+fn refusal(asked: &RowAsked) -> Option<&'static str> {
+    if asked.share.is_some() {
+        Some("error: only the program shares a check out")
+    } else if asked.covers.is_some() && asked.jobs.is_some() {
+        Some(ONE_COVERS)
+    } else if asked.changes.snapshots.is_some() {
+        Some(NO_SNAPSHOTS)
+    } else {
+        None
     }
 }
 

@@ -26,6 +26,8 @@ pub struct Changes {
     pub checkpoint_interval: Option<usize>,
     /// Whether a run explores only from the operation `explore` on.
     pub expect_explicit_explore: Option<bool>,
+    /// Whether a run of a covering check goes on from a copy of where an earlier one stood.
+    pub snapshots: Option<bool>,
 }
 
 impl Changes {
@@ -47,6 +49,7 @@ impl Changes {
             expect_explicit_explore: self
                 .expect_explicit_explore
                 .unwrap_or(builder.expect_explicit_explore),
+            snapshots: self.snapshots.unwrap_or(builder.snapshots),
             ..builder
         }
     }

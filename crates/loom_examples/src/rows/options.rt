@@ -58,7 +58,7 @@ const NUMBER: Known = Known {
 };
 
 // All options, in the order of the help, which clap adds itself.
-static OPTIONS: [Known; 29] = [
+static OPTIONS: [Known; 30] = [
     // What the program does besides a check.
     Known {
         name: "explain",
@@ -124,6 +124,13 @@ static OPTIONS: [Known; 29] = [
         help: "remember at most this many states",
         needs: Some("cover"),
         ..NUMBER
+    },
+    Known {
+        name: "snapshots",
+        help: "go on from copies of where earlier runs stood, which finds the same",
+        conflicts: &["jobs", "split"],
+        needs: Some("cover"),
+        ..FLAG
     },
     Known {
         name: "recorded",
@@ -460,6 +467,7 @@ fn changes(matches: &ArgMatches) -> Changes {
         preemption_bound: matches.get_one("preemption-bound"),
         checkpoint_interval: matches.get_one("checkpoint-interval"),
         expect_explicit_explore: switched(matches.get_flag("explicit-explore"), false),
+        snapshots: switched(matches.get_flag("snapshots"), false),
     }
 }
 

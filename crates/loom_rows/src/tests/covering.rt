@@ -4,13 +4,14 @@ use super::finding::{put_values, replays};
 use super::rows::program_rows;
 use crate::tests::asserting::{holds, same, script};
 use loom::model::Report;
+use loom::model::builder::Builder;
 use loom::model::cover::Covered;
 use loom::model::error::CheckError;
 use loom::{Body, Choice, FailureKind, MemoryStore, NoClock};
 use loom_examples::bodies::guide::Counter;
 use loom_examples::bodies::spin::Spin;
 use loom_examples::bodies::updates::Updater;
-use loom_examples::measured::{all_bodies, body_of};
+use loom_examples::measured::{Measured, all_bodies, body_of};
 use loom_examples::rows::cover::ShownCovered;
 use loom_examples::rows::settings::{Builds, Settings};
 use loom_examples::rows::{Checked, Row, WHOLE, row_of};
@@ -299,9 +300,9 @@ fn other_bodies_are_covered(rt: HostRuntime) {
 }
 
 // What the program prints of the script where it is covered.
-fn line_of(rt: &(impl Abort + AllocGlobal), settings: Settings, steps: &'static [Step]) -> Page {
+fn line_of(rt: &(impl Abort + AllocGlobal), builder: &Builder, steps: &'static [Step]) -> Page {
     let mut page = Page::new(rt.alloc());
-    if let Ok(covered) = settings.builder().cover(rt.alloc(), &script(rt, steps)) {
+    if let Ok(covered) = builder.cover(rt.alloc(), &script(rt, steps)) {
         page.add_shown(&ShownCovered(&covered));
     }
     page
@@ -316,16 +317,30 @@ static COUNTS: [(&str, &str); 5] = [
     ("locks_in_turn", "complete 2 met 18 states 38"),
 ];
 
-#[test]
-fn so_many_states_are_met(rt: HostRuntime) {
-    let bodies = all_bodies(rt.alloc()).expect(&rt, "no memory for the bodies");
+// What the program prints of the body that is measured, where it is covered with snapshots or without.
+fn line_of_body(rt: &(impl Abort + AllocGlobal), body: &Measured, snapshots: bool) -> Page {
+    let builder = Builder {
+        snapshots,
+        ..body.settings.builder()
+    };
+    line_of(rt, &builder, body.steps)
+}
+
+fn so_many_are_met(rt: &(impl Abort + AllocGlobal), snapshots: bool) {
+    let bodies = all_bodies(rt.alloc()).expect(rt, "no memory for the bodies");
     for (name, text) in &COUNTS {
         let line = match body_of(bodies.as_slice(), *name) {
-            Some(measured) => line_of(&rt, measured.settings, measured.steps),
+            Some(body) => line_of_body(rt, body, snapshots),
             None => Page::new(rt.alloc()),
         };
-        same(&rt, line.text.as_str(), *text, *name);
+        same(rt, line.text.as_str(), *text, *name);
     }
+}
+
+#[test]
+fn so_many_states_are_met(rt: HostRuntime) {
+    so_many_are_met(&rt, false);
+    so_many_are_met(&rt, true);
 }
 
 // Rows whose other searches fail by the length of their runs.
@@ -337,7 +352,7 @@ static SPINNING: [(&str, &str); 3] = [
 
 fn line_of_row(rt: &(impl Abort + AllocGlobal), row: &Row) -> Page {
     match row.checked {
-        Checked::Script(steps) => line_of(rt, row.settings, steps),
+        Checked::Script(steps) => line_of(rt, &row.settings.builder(), steps),
         Checked::Updater(..) => Page::new(rt.alloc()),
     }
 }
@@ -383,6 +398,6 @@ const TRYING: &[Step] = &[
 
 #[test]
 fn who_tries_for_ever_is_in_a_livelock(rt: HostRuntime) {
-    let line = line_of(&rt, WHOLE, TRYING);
+    let line = line_of(&rt, &WHOLE.builder(), TRYING);
     same(&rt, line.text.as_str(), "livelock t0 t1 t1 t1", "trying");
 }

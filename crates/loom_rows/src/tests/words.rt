@@ -270,7 +270,7 @@ static OBJECTS: [Said; 4] = [
 ];
 
 // Checks that remember states, of which none begins here, and words that don't go with them.
-static COVERED: [Said; 4] = [
+static COVERED: [Said; 8] = [
     said!(
         &["--cover", "--max-duration", "0", "lock_beside"],
         "stopped 0 met 0 states 0\n",
@@ -287,6 +287,43 @@ static COVERED: [Said; 4] = [
         &["--states", "3", "lock_beside"],
         "",
         usage!("the following required arguments were not provided:\n  --cover"),
+        2
+    ),
+    said!(
+        &[
+            "--cover",
+            "--snapshots",
+            "--max-duration",
+            "0",
+            "lock_beside"
+        ],
+        "stopped 0 met 0 states 0\n",
+        "",
+        0
+    ),
+    said!(
+        &["--snapshots", "lock_beside"],
+        "",
+        usage!("the following required arguments were not provided:\n  --cover"),
+        2
+    ),
+    said!(
+        &["--cover", "--snapshots", "--jobs", "2", "lock_beside"],
+        "",
+        usage!("the argument '--snapshots' cannot be used with '--jobs <N>'"),
+        2
+    ),
+    said!(
+        &[
+            "--cover",
+            "--snapshots",
+            "--split",
+            "parts",
+            "2",
+            "lock_beside"
+        ],
+        "",
+        usage!("the argument '--snapshots' cannot be used with '--split <DIR> <N>'"),
         2
     ),
     said!(

@@ -94,8 +94,8 @@ fn the_program_goes_on(rt: HostRuntime) {
 
 const COVERED: &str = "loom_covered.json";
 
-// A check that remembers states goes on from a file, which a plain check refuses.
-static COVERS: [Call; 3] = [
+// A check that remembers states goes on from a file, with snapshots or without. A plain check refuses it.
+static COVERS: [Call; 4] = [
     (
         &["--cover", "--max-permutations", "1", "lock_beside", COVERED],
         "stopped 1 met 0 states 4\n",
@@ -103,6 +103,12 @@ static COVERS: [Call; 3] = [
         0,
     ),
     (&["lock_beside", COVERED], "", OTHER_SEARCH, 2),
+    (
+        &["--cover", "--snapshots", "lock_beside", COVERED],
+        "complete 1 met 1 states 4\n",
+        "",
+        0,
+    ),
     (
         &["--cover", "lock_beside", COVERED],
         "complete 1 met 1 states 4\n",

@@ -8,4 +8,4 @@ use Rattle.loom_rows.proofs.measuring.cover.cover_often.Given as goal
 
 -- the report kept is of a check of the body
 abbrev pub invariant-loop : goal.invariant-loop
-invariant-loop g l = IfSome l.found (CoveringAlone (builder_of l.body.settings) next_of (started (map written l.body.steps.now)))
+invariant-loop g l = IfSome l.found (CoveringAlone (record (builder_of l.body.settings) { snapshots = l.snapshots }) next_of (started (map written l.body.steps.now)))
