@@ -1,5 +1,5 @@
 //! The handle by which a thread of a run hands over its operations and waits for their replies.
-ghost use Rattle.std.specs.Prelude.{◌≡◌, ◌++◌, ◌∷◌, [], IfOk, IfErr, IfSome, OnOk, MatchOption, Some, Ok, Err, true, false, slice_get};
+ghost use Rattle.std.specs.Prelude.{◌≡◌, ◌≤◌, ◌+◌, ◌++◌, ◌∷◌, [], IfOk, IfErr, IfSome, OnOk, MatchOption, Some, Ok, Err, true, false, slice_get};
 ghost use Rattle.loom_objects.specs.declared.operation.Reply.TheVariants as reply;
 ghost use Rattle.loom_objects.specs.Text.{first_text};
 ghost use Rattle.loom.specs.Runner.Errors.{IsRefusedByHost};
@@ -23,10 +23,11 @@ mod wakers;
 use crate::runner::error::RunnerError;
 use crate::runner::exact::Exact;
 use crate::runner::handle::calls::{is_reserved, last_of};
-use crate::runner::handle::entries::{has_room, note, note_spawn, prepare};
+use crate::runner::handle::entries::{has_room, note, note_spawn, note_started, prepare};
 use crate::runner::history::event::Entry;
 use crate::runner::history::told::Told;
 use crate::runner::job::Job;
+use crate::runner::pool::Pool;
 use crate::runner::shared::{self, Children, Shared};
 use crate::runner::stop::Stop;
 use loom_objects::label::{self, Label};
@@ -229,6 +230,46 @@ impl<D: Exact + 'static, R: Threads + Wait + Clone + Send + 'static> Handle<D, R
         };
         let started = shared::start(&self.rt, self.alloc, &self.shared, spawn, job);
         match note_spawn(&mut self.told, &mut self.children, name, started) {
+            Ok(handle) => Ok(handle),
+            Err(stop) => {
+                self.stop = Some(stop);
+                shared::heed(&self.rt, &self.shared, stop);
+                Err(stop)
+            }
+        }
+    }
+
+    /// Starts a thread that runs the job, once its turn comes, on a thread of the host that the pool keeps: one that is free, or else a new
+    /// one (own). To the run it is one of `spawn_job`. Each job of the type may be run. Where the host refuses the thread, the job is
+    /// dropped and the run stops.
+    pub fn spawn_on<J: Job<D, R> + 'static>(
+        &mut self,
+        pool: &mut Pool<D, J>,
+        job: J,
+    ) -> Result<JoinHandle, Stop>
+        requires { (each : J) → J.ready each }
+        ensures kept { pool.old ≤ pool.new }
+        ensures one { pool.new ≤ pool.old + 1 }
+        ensures live { OnOk result (all_answered self.old.told ≡ true) }
+        ensures thread { self.new.thread ≡ self.old.thread }
+        ensures answered { IfOk result (λ child. self.new.told ≡ self.old.told ++ entry (spawning self.old.name) (Some (reply.Spawned child.thread child.name child.notifier)) ∷ []) }
+        ensures stopped { IfErr result (λ stop. ByStop stop (self.new.told ≡ with_open self.old.told (spawning self.old.name)) (self.new.starved ≡ true)) }
+    {
+        if let Some(stop) = self.stop {
+            return Err(stop);
+        }
+        if !has_room(&mut self.told) {
+            return Err(self.give_up(Stop::Memory));
+        }
+        let name = self.name;
+        self.name = None;
+        let spawn = shared::Spawn {
+            by: self.thread,
+            label: self.label.take(),
+            name,
+        };
+        let started = shared::start_on(&self.rt, self.alloc, &self.shared, spawn, pool, job);
+        match note_started(&mut self.told, name, started) {
             Ok(handle) => Ok(handle),
             Err(stop) => {
                 self.stop = Some(stop);

@@ -1,18 +1,20 @@
 //! What the threads of a run share: its state under a lock, and where each of them waits for its turn. By it they hand over their
 //! operations, wake each other, and start and join each other.
-ghost use Rattle.std.specs.Prelude.{◌≡◌, ◌≤◌, IfOk, IfErr};
+ghost use Rattle.std.specs.Prelude.{◌≡◌, ◌≤◌, ◌+◌, IfOk, IfErr};
 ghost use Rattle.loom_engine.specs.Path.Drawn.{IsDrawn};
 ghost use Rattle.loom_engine.specs.Path.Route.{IsAtStart};
 ghost use Rattle.loom.specs.Runner.Handle.{newcomer};
 ghost use Rattle.loom.specs.Runner.Errors.{IsRefusedByHost};
 
-mod looks;
+pub(crate) mod looks;
 
 use crate::runner::error::RunnerError;
 use crate::runner::exact::Exact;
 use crate::runner::handle::Handle;
 use crate::runner::history::told::Told;
 use crate::runner::job::Job;
+use crate::runner::pool::Pool;
+use crate::runner::pool::place::{Place, Work};
 use crate::runner::shared::looks::Looks;
 use crate::runner::stop::Stop;
 use crate::runner::turns::Turns;
@@ -496,6 +498,50 @@ pub(crate) fn start<
     }
 }
 
+/// A thread of the pool waits for its turn, and runs the job.
+pub(crate) fn start_on<
+    D: Exact + 'static,
+    R: Threads + Wait + Clone + Send + 'static,
+    J: Job<D, R> + 'static,
+>(
+    rt: &R,
+    alloc: Global,
+    shared: &Arc<Shared<D>, Global>,
+    spawn: Spawn,
+    pool: &mut Pool<D, J>,
+    job: J,
+) -> Result<JoinHandle, Stop>
+    requires { (each : J) → J.ready each }
+    ensures kept { pool.old ≤ pool.new }
+    ensures one { pool.new ≤ pool.old + 1 }
+{
+    let handle = begin(rt, shared, spawn)?;
+    let Ok(theirs) = Arc::try_clone(shared) else {
+        return Err(Stop::Memory);
+    };
+    let work = Work {
+        shared: theirs,
+        thread: handle.thread,
+        job,
+    };
+    shared.note_start();
+    match pool.hand_out(rt, alloc, work) {
+        Ok(()) => Ok(handle),
+        Err(stop) => {
+            shared.leave(rt, Err(error_of(stop)));
+            Err(stop)
+        }
+    }
+}
+
+/// Why a thread that wasn't started has no told list.
+fn error_of(stop: Stop) -> RunnerError {
+    match stop {
+        Stop::Memory => RunnerError::Memory,
+        Stop::Refused | Stop::Failure(_) => RunnerError::Refused,
+    }
+}
+
 /// Hands over a spawn, and answers the thread that begins.
 fn begin<D: Exact, R: Wait>(rt: &R, shared: &Shared<D>, spawn: Spawn) -> Result<JoinHandle, Stop> {
     let request = Request::Thread(ThreadOp::Spawn((), spawn.name));
@@ -524,6 +570,30 @@ fn run_job<D: Exact + 'static, R: Threads + Wait + Clone + Send + 'static, J: Jo
     shared.leave(&rt, lists);
     drop(shared);
     join_all(&rt, children);
+}
+
+/// What a kept thread does with a job, as `run_job`. It is free before it leaves the run, so that the next run finds it so. Where the job
+/// has started threads it is free once they have ended, since a job that is handed to it waits until it has joined them.
+pub(crate) fn run_kept<
+    D: Exact + 'static,
+    R: Threads + Wait + Clone + Send + 'static,
+    J: Job<D, R> + 'static,
+>(rt: &R, alloc: Global, work: Work<D, J>, place: &Place<D, J>)
+    requires { (each : J) → J.ready each }
+{
+    let Work {
+        shared,
+        thread,
+        job,
+    } = work;
+    let mut children = Vec::new(alloc);
+    let lists = told_by(rt, alloc, &shared, thread, job, &mut children);
+    if children.is_empty() {
+        place.let_free(rt);
+    }
+    shared.leave(rt, lists);
+    drop(shared);
+    join_all(rt, children);
 }
 
 /// A started thread waits for its turn, runs the job, and closes its handle. Answers its told list. The threads that it has started are

@@ -73,11 +73,29 @@ pub(crate) fn note_spawn<D: Drop>(
 {
     match started {
         Ok((handle, child)) => {
+            children.push_reserved(child);
+            note_started(told, name, Ok(handle))
+        }
+        Err(stop) => note_started(told, name, Err(stop)),
+    }
+}
+
+/// Adds a spawn of a thread of this name.
+pub(crate) fn note_started<D: Drop>(
+    told: &mut Vec<Entry<D>>,
+    name: Option<Name>,
+    started: Result<JoinHandle, Stop>,
+) -> Result<JoinHandle, Stop>
+    requires { vec_len told.old < vec_capacity told.old }
+    ensures answered { IfOk result (λ child. told.new.items ≡ told.old.items ++ entry (spawning name) (Some (reply.Spawned child.thread child.name child.notifier)) ∷ []) }
+    ensures stopped { IfErr result (λ stop. told.new.items ≡ told.old.items ++ entry (spawning name) None ∷ []) }
+{
+    match started {
+        Ok(handle) => {
             told.push_reserved(Entry {
                 op: Request::Thread(ThreadOp::Spawn((), name)),
                 reply: Some(Reply::Spawned(handle.thread, handle.name, handle.notifier)),
             });
-            children.push_reserved(child);
             Ok(handle)
         }
         Err(stop) => {
