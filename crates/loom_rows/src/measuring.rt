@@ -25,7 +25,7 @@ use std::thread::Threads;
 use std::time::{Duration, Instant};
 
 /// What is checked where no word names a body: what takes seconds.
-static QUICK: [&str; 30] = [
+static QUICK: [&str; 31] = [
     "store_buffering",
     "store_buffering bound 1",
     "store_buffering bound 2",
@@ -55,6 +55,7 @@ static QUICK: [&str; 30] = [
     "three_threads cover snapshots",
     "stores_apart",
     "store_buffering closures",
+    "store_buffering closures kept",
     "store_buffering closures recorded",
 ];
 
@@ -114,7 +115,10 @@ fn check_closures<R: AllocGlobal + Clock + Files + Threads + Wait + Clone + Send
     let mut found = None;
     for _ in 0..closures.checks {
         *calls = 0;
-        found = Some(row.check_counted(rt, rt.alloc(), &builder, calls).ok()?);
+        found = Some(
+            row.check_counted(rt, rt.alloc(), &builder, closures.keeps, calls)
+                .ok()?,
+        );
     }
     found
 }

@@ -4,7 +4,7 @@ ghost use Rattle.loom.specs.declared.model.report.Report.{Report};
 ghost use Rattle.loom_examples.specs.Rows.Line.{PrintedOf};
 
 use crate::closures::ring::through_ring;
-use crate::closures::scenes;
+use crate::closures::scenes::{self, Kept};
 use crate::closures::stack::through_stack;
 use crate::rows::line::{self, ShownReport};
 use crate::rows::tasks::UP_TO;
@@ -18,7 +18,7 @@ use loom::model::parts::{Slice, Worked};
 use loom::model::rising::Risen;
 use loom::model::{Replay, Report, Shortened, Walk, Walked};
 use loom::runner::{
-    Found, Handle, Host, NoVisitor, RunnerError, Stop, Workers, check_parallel_recorded,
+    Found, Handle, Host, NoVisitor, Pool, RunnerError, Stop, Workers, check_parallel_recorded,
     check_part_recorded, check_rising, check_with, cover_recorded, explain, replay, shorten, walk,
 };
 use loom::{Choice, Clock, HostClock};
@@ -154,21 +154,24 @@ impl ClosureRow {
         alloc: Global,
         builder: &Builder,
     ) -> Result<Report, RunnerError> {
-        self.check_counted(rt, alloc, builder, &mut 0)
+        self.check_counted(rt, alloc, builder, false, &mut 0)
     }
 
-    /// What that check finds. It adds to the count how often it calls main.
+    /// What that check finds. Where this says so, the threads of rows that can do so are kept over its runs. It adds to the count how often
+    /// it calls main.
     pub fn check_counted<R: HostTime + Files + Threads + Wait + Clone + Send + 'static>(
         self,
         rt: &R,
         alloc: Global,
         builder: &Builder,
+        keeps: bool,
         calls: &mut u64,
     ) -> Result<Report, RunnerError> {
+        let mut kept = if keeps { Some(Pool::new(alloc)) } else { None };
         let mut called = 0u64;
         let main = |handle: &mut Handle<u64, R>| {
             called = called.wrapping_add(1);
-            self.run(handle, called == 1)
+            self.run_on(&mut kept, handle, called == 1)
         };
         let mut clock = HostClock::start(rt);
         let mut store = file_store(rt, alloc, &builder.checkpoint_file);
@@ -184,6 +187,9 @@ impl ClosureRow {
             &log,
         );
         *calls = calls.wrapping_add(called);
+        if let Some(pool) = kept {
+            pool.end(rt);
+        }
         found
     }
 
@@ -352,6 +358,21 @@ impl ClosureRow {
         self.run(handle, was_first)
     }
 
+    /// What main does in a run: the first run, or a later one. Three rows start their threads on those that are kept, if any are.
+    fn run_on<R: Threads + Wait + Clone + Send + 'static>(
+        self,
+        kept: &mut Kept,
+        handle: &mut Handle<u64, R>,
+        is_first: bool,
+    ) -> Result<u64, Stop> {
+        match self {
+            ClosureRow::TwoMutexesDeadlock => scenes::two_mutexes_on(kept, handle),
+            ClosureRow::ThreeAdds => scenes::three_adds(kept, handle),
+            ClosureRow::StoreBuffering => scenes::store_buffering_on(kept, handle),
+            _ => self.run(handle, is_first),
+        }
+    }
+
     /// What main does in a run: the first run, or a later one.
     fn run<R: Threads + Wait + Clone + Send + 'static>(
         self,
@@ -361,7 +382,7 @@ impl ClosureRow {
         match self {
             ClosureRow::TwoMutexesDeadlock => scenes::two_mutexes(handle),
             ClosureRow::FetchAddAtomic => scenes::two_adds(handle),
-            ClosureRow::ThreeAdds => scenes::three_adds(handle),
+            ClosureRow::ThreeAdds => scenes::three_adds(&mut None, handle),
             ClosureRow::LockBeside => scenes::lock_beside(handle),
             ClosureRow::PingPong => scenes::ping_pong(handle),
             ClosureRow::GuardLeft => scenes::guard_left(handle),

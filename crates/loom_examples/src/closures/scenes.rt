@@ -1,5 +1,7 @@
 //! What the rows check: main's closure of each, and what its threads do.
 use loom::runner::handle::Handle;
+use loom::runner::job::Job;
+use loom::runner::pool::Pool;
 use loom::runner::stop::Stop;
 use loom_ops::sync::atomic::Ordering::{Acquire, Relaxed, Release};
 use loom_ops::sync::atomic::{AtomicU64, AtomicUsize};
@@ -10,7 +12,7 @@ use std::thread::Threads;
 
 /// What a thread that main starts does.
 #[derive(Clone, Copy)]
-enum Part {
+pub enum Part {
     /// Locks the one, and then the other.
     LockBoth(Mutex, Mutex),
     /// Adds 1 to the number.
@@ -44,6 +46,15 @@ impl Part {
     }
 }
 
+impl<R: Wait> Job<u64, R> for Part {
+    fn run(self, handle: &mut Handle<u64, R>) -> Result<u64, Stop> {
+        self.play(handle)
+    }
+}
+
+/// The threads that are kept for parts over the runs of a check, if any are.
+pub type Kept = Option<Pool<u64, Part>>;
+
 /// Starts a thread that plays this part.
 fn start<R: Threads + Wait + Clone + Send + 'static>(
     handle: &mut Handle<u64, R>,
@@ -52,14 +63,34 @@ fn start<R: Threads + Wait + Clone + Send + 'static>(
     handle.spawn(move |handle| part.play(handle))
 }
 
+/// Starts a thread that plays this part, on one that is kept where any are.
+fn start_on<R: Threads + Wait + Clone + Send + 'static>(
+    kept: &mut Kept,
+    handle: &mut Handle<u64, R>,
+    part: Part,
+) -> Result<JoinHandle, Stop> {
+    match kept {
+        Some(pool) => handle.spawn_on(pool, part),
+        None => start(handle, part),
+    }
+}
+
 /// One thread locks a mutex and then another, a second thread the other and then the one. Main joins them.
 pub fn two_mutexes<R: Threads + Wait + Clone + Send + 'static>(
     handle: &mut Handle<u64, R>,
 ) -> Result<u64, Stop> {
+    two_mutexes_on(&mut None, handle)
+}
+
+/// That with threads that are kept, if any are.
+pub fn two_mutexes_on<R: Threads + Wait + Clone + Send + 'static>(
+    kept: &mut Kept,
+    handle: &mut Handle<u64, R>,
+) -> Result<u64, Stop> {
     let one = handle.mutex(0)?;
     let other = handle.mutex(0)?;
-    let first = start(handle, Part::LockBoth(one, other))?;
-    let second = start(handle, Part::LockBoth(other, one))?;
+    let first = start_on(kept, handle, Part::LockBoth(one, other))?;
+    let second = start_on(kept, handle, Part::LockBoth(other, one))?;
     handle.join(&first)?;
     handle.join(&second)
 }
@@ -109,13 +140,14 @@ pub fn two_adds<R: Threads + Wait + Clone + Send + 'static>(
     Ok(mine)
 }
 
-/// Three threads add 1 to the same number, twice each.
+/// Three threads add 1 to the same number, twice each. They are kept, if any are.
 pub fn three_adds<R: Threads + Wait + Clone + Send + 'static>(
+    kept: &mut Kept,
     handle: &mut Handle<u64, R>,
 ) -> Result<u64, Stop> {
     let number = handle.atomic(0u64)?;
-    let first = start(handle, Part::AddTwice(number))?;
-    let second = start(handle, Part::AddTwice(number))?;
+    let first = start_on(kept, handle, Part::AddTwice(number))?;
+    let second = start_on(kept, handle, Part::AddTwice(number))?;
     add_twice(handle, &number)?;
     handle.join(&first)?;
     handle.join(&second)
@@ -203,9 +235,17 @@ pub fn deaf<R: Wait>(handle: &mut Handle<u64, R>) -> Result<u64, Stop> {
 pub fn store_buffering<R: Threads + Wait + Clone + Send + 'static>(
     handle: &mut Handle<u64, R>,
 ) -> Result<u64, Stop> {
+    store_buffering_on(&mut None, handle)
+}
+
+/// That with a thread that is kept, if any are.
+pub fn store_buffering_on<R: Threads + Wait + Clone + Send + 'static>(
+    kept: &mut Kept,
+    handle: &mut Handle<u64, R>,
+) -> Result<u64, Stop> {
     let x = handle.atomic(0u64)?;
     let y = handle.atomic(0u64)?;
-    let child = start(handle, Part::StoreAndLoad(x, y))?;
+    let child = start_on(kept, handle, Part::StoreAndLoad(x, y))?;
     let mine = store_and_load(handle, &y, &x)?;
     let theirs = handle.join(&child)?;
     Ok(theirs.wrapping_mul(10).wrapping_add(mine))

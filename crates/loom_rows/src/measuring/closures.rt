@@ -1,4 +1,5 @@
-//! The rows of closures that are measured beside the bodies of the same operations: by calls alone, and recorded.
+//! The rows of closures that are measured beside the bodies of the same operations: by calls alone, with threads that
+//! are kept, and recorded.
 use loom_examples::closures::rows::ClosureRow;
 use loom_examples::rows::WHOLE;
 use loom_examples::rows::settings::Settings;
@@ -6,7 +7,7 @@ use loom_examples::rows::settings::Settings;
 /// A row of closures, and how it is measured.
 #[derive(Clone, Copy)]
 pub(crate) struct Closures {
-    /// The name of the body with the same operations, `closures`, and `recorded` where they are.
+    /// The name of the body with the same operations, `closures`, and `kept` or `recorded` where that is so.
     pub name: &'static str,
     /// What is checked.
     pub row: ClosureRow,
@@ -14,18 +15,30 @@ pub(crate) struct Closures {
     pub checks: u64,
     /// How it is checked.
     pub settings: Settings,
+    /// Whether threads of the host are kept over the runs of a check.
+    pub keeps: bool,
     /// Whether the threads' answers are recorded.
     pub records: bool,
-    /// How many threads of the host a call of main starts.
+    /// How many threads a call of main starts.
     pub threads: u32,
 }
 
-static ALL: [Closures; 6] = [
+static ALL: [Closures; 9] = [
     Closures {
         name: "store_buffering closures",
         row: ClosureRow::StoreBuffering,
         checks: 200,
         settings: WHOLE,
+        keeps: false,
+        records: false,
+        threads: 1,
+    },
+    Closures {
+        name: "store_buffering closures kept",
+        row: ClosureRow::StoreBuffering,
+        checks: 200,
+        settings: WHOLE,
+        keeps: true,
         records: false,
         threads: 1,
     },
@@ -34,6 +47,7 @@ static ALL: [Closures; 6] = [
         row: ClosureRow::StoreBuffering,
         checks: 200,
         settings: WHOLE,
+        keeps: false,
         records: true,
         threads: 1,
     },
@@ -42,6 +56,16 @@ static ALL: [Closures; 6] = [
         row: ClosureRow::TwoMutexesDeadlock,
         checks: 200,
         settings: WHOLE,
+        keeps: false,
+        records: false,
+        threads: 2,
+    },
+    Closures {
+        name: "locks_crosswise closures kept",
+        row: ClosureRow::TwoMutexesDeadlock,
+        checks: 200,
+        settings: WHOLE,
+        keeps: true,
         records: false,
         threads: 2,
     },
@@ -50,6 +74,7 @@ static ALL: [Closures; 6] = [
         row: ClosureRow::TwoMutexesDeadlock,
         checks: 200,
         settings: WHOLE,
+        keeps: false,
         records: true,
         threads: 2,
     },
@@ -58,6 +83,16 @@ static ALL: [Closures; 6] = [
         row: ClosureRow::ThreeAdds,
         checks: 2,
         settings: WHOLE,
+        keeps: false,
+        records: false,
+        threads: 2,
+    },
+    Closures {
+        name: "three_adds closures kept",
+        row: ClosureRow::ThreeAdds,
+        checks: 2,
+        settings: WHOLE,
+        keeps: true,
         records: false,
         threads: 2,
     },
@@ -66,6 +101,7 @@ static ALL: [Closures; 6] = [
         row: ClosureRow::ThreeAdds,
         checks: 2,
         settings: WHOLE,
+        keeps: false,
         records: true,
         threads: 2,
     },
