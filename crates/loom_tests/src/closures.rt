@@ -8,6 +8,7 @@ mod finding;
 mod forms;
 mod forms_in_children;
 mod forms_of_values;
+mod kept;
 mod others;
 mod recorded;
 mod recording;

@@ -2,7 +2,7 @@
 use crate::closures::holds;
 use loom::model::builder::Builder;
 use loom::model::{Replay, Report};
-use loom::runner::{Handle, Host, NoVisitor, RunnerError, Stop, check, model, replay};
+use loom::runner::{Handle, Host, Job, NoVisitor, Pool, RunnerError, Stop, check, model, replay};
 use loom::sync::Mutex;
 use loom::sync::atomic::AtomicU64;
 use loom::sync::atomic::Ordering::{self, AcqRel, Acquire, Relaxed, Release};
@@ -42,6 +42,33 @@ fn count_up<R: Wait>(
     handle.assert(count == before)?;
     handle.release(guard, count.wrapping_add(1))?;
     Ok(count)
+}
+
+/// What a thread that is kept does: it adds one to both.
+#[derive(Clone, Copy)]
+struct CountUp(Mutex, AtomicU64);
+
+impl<R: Wait> Job<u64, R> for CountUp {
+    fn run(self, handle: &mut Handle<u64, R>) -> Result<u64, Stop> {
+        let CountUp(mutex, atomic) = self;
+        count_up(handle, &mutex, &atomic)
+    }
+}
+
+/// One thread of the host runs the jobs of all runs.
+#[test]
+fn a_thread_is_kept(rt: HostRuntime) -> Result<(), Fail> {
+    let mut pool = Pool::new(rt.alloc());
+    let report = model(&rt, rt.alloc(), |handle: &mut Handle<u64, HostRuntime>| {
+        let mutex = handle.mutex(0)?;
+        let atomic = handle.atomic(0u64)?;
+        let child = handle.spawn_on(&mut pool, CountUp(mutex, atomic))?;
+        count_up(handle, &mutex, &atomic)?;
+        handle.join(&child)
+    })?;
+    assert!(rt; report.is_complete() && pool.threads() == 1, "{report}");
+    pool.end(&rt);
+    Ok(())
 }
 
 /// A closure may print what it sees: here once in each run.

@@ -4,7 +4,7 @@ use crate::closures::forms::{self, Signals, Timed};
 use crate::closures::forms_in_children::{self, Change, Form};
 use crate::closures::forms_of_values::{self, Gate};
 use crate::closures::{changes, turns};
-use loom::runner::{Handle, Job, Stop};
+use loom::runner::{Handle, Job, Pool, Stop};
 use loom::sync::Mutex;
 use loom::sync::atomic::{AtomicU64, AtomicUsize};
 use loom::thread::JoinHandle;
@@ -46,7 +46,7 @@ pub(super) enum Task {
 
 /// A thread that main starts.
 #[derive(Drop)]
-struct Child {
+pub(super) struct Child {
     task: Task,
     counter: Counter,
 }
@@ -71,6 +71,17 @@ impl<R: Wait> Job<u64, R> for Child {
             Task::MakeChange(change) => forms_in_children::make_change(handle, &change),
         }
     }
+}
+
+/// Starts a thread of the pool, which counts together with the others.
+pub(super) fn start_on<R: Threads + Wait + Clone + Send + 'static>(
+    pool: &mut Pool<u64, Child>,
+    handle: &mut Handle<u64, R>,
+    task: Task,
+    counter: &Counter,
+) -> Result<JoinHandle, Stop> {
+    let counter = handle.allocated(Arc::try_clone(counter))?;
+    handle.spawn_on(pool, Child { task, counter })
 }
 
 /// Starts a thread, which counts together with the others.
