@@ -1,5 +1,5 @@
 //! Operations over slots, as a thread hands them over: by the numbers that its slots keep, and by what values stand for.
-ghost use Rattle.std.specs.Prelude.{◌≡◌, IfOk};
+ghost use Rattle.std.specs.Prelude.{◌≡◌, IfOk, Ok};
 ghost use Rattle.loom_examples.specs.Scripts.Operations.{atomic_op, cell_op, arc_op, track_op, mutex_op, rwlock_op, condvar_op, notify_op, channel_op, waker_op, place_op, local_op, lazy_op};
 ghost use Rattle.loom_objects.specs.declared.operation.Request.TheVariants.{Thread};
 ghost use Rattle.loom_examples.specs.Scripts.Script.{request};
@@ -297,22 +297,35 @@ impl Script {
         ensures { IfOk result (λ made. made ≡ request self.now (Thread op.now)) }
     {
         let state = self.state();
-        Ok(Request::Thread(match op {
-            ThreadOp::Spawn(at, name) => ThreadOp::Spawn(self.child(*at)?, *name),
-            ThreadOp::Join(slot, again) => match (state.thread(*slot), state.notifier(*again)) {
-                (Some(thread), Some(notifier)) => ThreadOp::Join(thread, notifier),
-                _ => return Ok(Request::Fail),
-            },
-            ThreadOp::Current => ThreadOp::Current,
-            ThreadOp::Park => ThreadOp::Park,
-            ThreadOp::Unpark(slot) => match state.thread(*slot) {
-                Some(thread) => ThreadOp::Unpark(thread),
-                None => return Ok(Request::Fail),
-            },
-            ThreadOp::Yield => ThreadOp::Yield,
-            ThreadOp::Finish(value) => ThreadOp::Finish(state.number_of(*value)),
-            ThreadOp::Exit => ThreadOp::Exit,
-            ThreadOp::End => ThreadOp::End,
-        }))
+        match op {
+            ThreadOp::Spawn(at, name) => return made(ThreadOp::Spawn(self.child(*at)?, *name)),
+            ThreadOp::Join(slot, again) => {
+                if let (Some(thread), Some(notifier)) = (
+                    state.thread(*slot),
+                    state.notifier(*again),
+                ) {
+                    return made(ThreadOp::Join(thread, notifier));
+                }
+            }
+            ThreadOp::Current => return made(ThreadOp::Current),
+            ThreadOp::Park => return made(ThreadOp::Park),
+            ThreadOp::Unpark(slot) => {
+                if let Some(thread) = state.thread(*slot) {
+                    return made(ThreadOp::Unpark(thread));
+                }
+            }
+            ThreadOp::Yield => return made(ThreadOp::Yield),
+            ThreadOp::Finish(value) => return made(ThreadOp::Finish(state.number_of(*value))),
+            ThreadOp::Exit => return made(ThreadOp::Exit),
+            ThreadOp::End => return made(ThreadOp::End),
+        }
+        Ok(Request::Fail)
     }
+}
+
+/// The operation of threads as an answer: each goes out by itself.
+fn made(op: ThreadOp<u64, Script>) -> Result<Request<u64, Script>, AllocError>
+    ensures { result ≡ Ok (Thread op) }
+{
+    Ok(Request::Thread(op))
 }

@@ -168,6 +168,13 @@ fn called(request: Request<u64, Script>, label: &Label) -> Result<Op<u64, Script
     })
 }
 
+// The operation of a step that fails.
+fn failing() -> Result<Op<u64, Script>, AllocError>
+    ensures { result ≡ Ok (bare Request.Fail) }
+{
+    bare(Request::Fail)
+}
+
 // A growth that was refused.
 fn refused(refusal: AllocError) -> Result<Op<u64, Script>, AllocError>
     ensures { result ≡ Err refusal }
@@ -200,7 +207,7 @@ impl Body for Script {
                 Err(refusal) => return refused(refusal),
             },
             Some(Step::Label(_) | Step::JumpTo(_) | Step::IfTo(..) | Step::UnlessTo(..)) | None =>
-                return bare(Request::Fail),
+                return failing(),
         };
         let request = match self.request(asked) {
             Ok(request) => request,
