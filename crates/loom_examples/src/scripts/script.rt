@@ -195,8 +195,7 @@ impl Body for Script {
             let reply = reply;
             self.state.keep(&reply);
         }
-        let place = self.state.fetch(self.program.as_ref());
-        let step = self.program.step(place);
+        let (place, step) = self.state.fetch(self.program.as_ref());
         // Each answer goes out by itself: where two meet, each of them would be moved once more. Beyond the script's end, and
         // where a jump leads to a jump or past a label to another one, the step fails.
         let asked = match step {

@@ -1,5 +1,6 @@
 //! How far a thread of a script is, and what it and its registers keep.
-ghost use Rattle.std.specs.Prelude.{◌≡◌, ◌==◌, slice_get};
+ghost use Rattle.std.specs.Prelude.{◌≡◌, ◌==◌, option_copied, slice_get};
+ghost use Rattle.std.specs.Option.{option_map};
 ghost use Rattle.loom_examples.specs.Scripts.Running.{at_first, behind, child, fetched, keep_of, landing, past_label};
 ghost use Rattle.loom_examples.specs.Scripts.Written.{written};
 ghost use Rattle.loom_examples.specs.Scripts.Slots.{digits, handle_at, held, kept, lazy_digits, local_digits, name_number, notifier, number_of, object, put_handle, put_number, thread, told_by, with_digit};
@@ -214,29 +215,30 @@ impl State {
     }
 
     /// Goes behind the next step or, where that is a jump or a label, behind the one to which it leads. Answers the place of the
-    /// step behind which it is now, if there is one.
-    pub(crate) fn fetch(&mut self, program: &Program) -> usize
-        ensures place { result ≡ landing program.now self.old }
+    /// step behind which it is now, and that step, if there is one.
+    pub(crate) fn fetch(&mut self, program: &Program) -> (usize, Option<&'static Step>)
+        ensures place { result.0 ≡ landing program.now self.old }
+        ensures read { option_map written (option_copied result.1) ≡ slice_get program.now result.0 }
         ensures moved { self.new ≡ fetched program.now self.old }
     {
         let at = self.at;
         let Some(step) = program.step(at) else {
-            return at;
+            return (at, None);
         };
         match step {
             Step::Do(keep, _) | Step::Labelled(keep, ..) | Step::SpawnAt(keep, _) => {
                 self.at = at + 1;
                 self.keep = *keep;
-                at
+                (at, Some(step))
             }
             Step::Store(..) => {
                 self.pass(program, at);
-                at
+                (at, Some(step))
             }
             Step::Label(_) | Step::JumpTo(_) | Step::IfTo(..) | Step::UnlessTo(..) => {
                 let place = self.landing(program);
                 self.pass(program, place);
-                place
+                (place, program.step(place))
             }
         }
     }

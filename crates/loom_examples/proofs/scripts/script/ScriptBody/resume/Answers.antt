@@ -14,4 +14,4 @@ returns-in-Some-Label c = elim c.in-Some-Label-1.branch [
 
 pub returns-in-Ok : goal.returns-in-Ok
 returns-in-Ok c = spawns c.args.self.now _ c.args.reply c.in-Some-SpawnAt.field-0.now c.in-Some-SpawnAt.field-0-0 c.in-Some-SpawnAt.field-0-1
-    c.fetch-place.result c.named_at.result c.in-Ok.request c.bare-in-Ok.result (search rules) (search rules) (search rules) (search rules) (search rules) c.in-Ok.ensures c.bare-in-Ok.ensures
+    c.fetch-place.result.0 c.named_at.result c.in-Ok.request c.bare-in-Ok.result (search rules) (search rules) (search rules) (search rules) (search rules) c.in-Ok.ensures c.bare-in-Ok.ensures
