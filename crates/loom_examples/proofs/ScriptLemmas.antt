@@ -1,3 +1,4 @@
+pub mod Coding
 pub mod Going
 pub mod Reading
 pub mod Switching

@@ -1,3 +1,4 @@
+pub mod Code
 pub mod Operations
 pub mod Running
 pub mod Script

@@ -1,4 +1,5 @@
 //! Bodies that are lists of steps.
+mod code;
 pub(crate) mod comparing;
 mod operations;
 mod program;

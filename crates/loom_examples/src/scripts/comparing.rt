@@ -48,10 +48,21 @@ impl Same for Handle {
     }
 }
 
+/// Whether the programs are the same: by their bytes, where both have a code.
+#[tactic(auto, using(crate::proofs::ScriptLemmas::Coding::told_once))]
 fn is_program_same(one: &Program, other: &Program) -> bool
     ensures { IsTrue result → one.now ≡ other.now }
 {
-    are_steps_same(one.steps(), other.steps())
+    match (one.code(), other.code()) {
+        (Some(code), Some(others)) => are_bytes_same(code, others),
+        _ => are_steps_same(one.steps(), other.steps()),
+    }
+}
+
+fn are_bytes_same(one: &[u8], other: &[u8]) -> bool
+    ensures { IsTrue result → one.now ≡ other.now }
+{
+    *one == *other
 }
 
 /// Whether the steps read the same.

@@ -1,12 +1,14 @@
 //! The steps of a script, with the places to which they lead.
-ghost use Rattle.std.specs.Prelude.{◌≡◌, ◌<◌, ◌^◌, IfOk, OnSome, Some, map, not, option_copied, position, slice_get};
+ghost use Rattle.std.specs.Prelude.{◌≡◌, ◌<◌, ◌^◌, IfOk, IfSome, OnSome, Some, map, not, option_copied, position, slice_get};
 ghost use Rattle.std.specs.List.{list_all};
 ghost use Rattle.std.specs.Option.{option_map};
+ghost use Rattle.loom_examples.specs.Scripts.Code.{Tell};
 ghost use Rattle.loom_examples.specs.Scripts.Running.{is_label, named_place, place_of};
 ghost use Rattle.loom_examples.specs.Scripts.Switching.{switches};
 ghost use Rattle.loom_examples.specs.Scripts.Written.{written};
 ghost use Rattle.loom_objects.specs.Exploring.{is_switch};
 
+use crate::scripts::code::bytes_of;
 use crate::scripts::step::{Step, Value};
 use loom_objects::operation::Request;
 use std::alloc::{AllocError, Global};
@@ -18,10 +20,13 @@ pub(crate) struct Program {
     steps: &'static [Step],
     // For each step the place of the label that it names. Where it names none, the steps' end.
     places: Vec<usize>,
+    // The bytes that tell the steps, if each of them has a code.
+    code: Option<Vec<u8>>,
 }
 
 impl Model for Program {
-    ghost use Rattle.std.specs.Prelude.{◌≡◌, List, Some, map};
+    ghost use Rattle.std.specs.Prelude.{◌≡◌, IfSome, List, Some, map};
+    ghost use Rattle.loom_examples.specs.Scripts.Code.{Tell};
     ghost use Rattle.loom_examples.specs.Scripts.Running.{named_place};
     ghost use Rattle.loom_examples.specs.Scripts.Written.{Written, written};
 
@@ -29,7 +34,8 @@ impl Model for Program {
 
     ghost view = { λ program. map written program.steps.now };
 
-    ghost invariant = { λ program. program.places.items ≡ map (λ step. named_place (map written program.steps.now) (Some step)) (map written program.steps.now) };
+    ghost invariant = { λ program. (program.places.items ≡ map (λ step. named_place (map written program.steps.now) (Some step)) (map written program.steps.now))
+        × IfSome program.code (λ code. Tell code.items (map written program.steps.now)) };
 }
 
 impl Program {
@@ -41,19 +47,19 @@ impl Program {
             .iter()
             .map(|step| named_place(steps, step))
             .collect::<Vec<_>>(alloc)?;
-        Ok(Program { steps, places })
+        let code = bytes_of(alloc, steps)?;
+        Ok(Program {
+            steps,
+            places,
+            code,
+        })
     }
 
     /// A copy of it. It fails only where a growth is refused.
     pub(crate) fn try_clone(&self, alloc: Global) -> Result<Program, AllocError>
         ensures { IfOk result (λ program. program ≡ self.now) }
     {
-        let mut places = Vec::new(alloc);
-        places.extend_from_slice(self.places.as_slice())?;
-        Ok(Program {
-            steps: self.steps,
-            places,
-        })
+        Program::new(alloc, self.steps)
     }
 
     /// All steps.
@@ -61,6 +67,16 @@ impl Program {
         ensures { map written result.now ≡ self.now }
     {
         self.steps
+    }
+
+    /// The bytes that tell them, if each of them has a code.
+    pub(crate) fn code(&self) -> Option<&[u8]>
+        ensures { IfSome result (λ code. Tell code.now self.now) }
+    {
+        match &self.code {
+            Some(code) => Some(code.as_slice()),
+            None => None,
+        }
     }
 
     /// The step at this place, if there is one.
