@@ -1,5 +1,5 @@
 -- What loops over the numbers below a bound find.
-use Rattle.std.proofs.Common.{append-nil, zero, suc, ◌≡◌, ℕ, ◌+◌, ◌<◌, Bool, true, false, cond, ◌||◌, List, [], ◌∷◌, ◌++◌, map, refl, ap, ◌∙◌, arith, add-one, ⊎_elim, subst}
+use Rattle.std.proofs.Common.{append-nil, zero, suc, ◌≡◌, ℕ, ◌+◌, ◌<◌, Bool, true, false, cond, ◌||◌, List, [], ◌∷◌, ◌++◌, map, refl, ap, sym, ◌∙◌, arith, add-one, ⊎_elim, subst}
 use Rattle.std.specs.List.{list_any, filter, AllByRecursion}
 use Rattle.std.proofs.lemmas.Bool.{cases_eq, or_left, or_right, or_from}
 use Rattle.std.proofs.lemmas.List.Elements.{filter-append}
@@ -70,3 +70,9 @@ join_all_more-yes vs f p i e = rw (upto-push i, filter-append p (upto i) (i ∷ 
 
 pub join_all_more-no : (vs : List ℕ) (f : ℕ → List ℕ) (p : ℕ → Bool) (i : ℕ) → p i ≡ false → join_all vs (map f (filter p (upto (i + 1)))) ≡ join_all vs (map f (filter p (upto i)))
 join_all_more-no vs f p i e = rw (upto-push i, filter-append p (upto i) (i ∷ []), e, append-nil (filter p (upto i))) refl
+
+-- one more number, that passes or doesn't
+pub join_all_more : (vs : List ℕ) (f : ℕ → List ℕ) (p : ℕ → Bool) (i : ℕ) (passes : Bool) (joined : List ℕ) → passes ≡ p i → joined ≡ join_all vs (map f (filter p (upto i)))
+    → cond passes (join joined (f i)) joined ≡ join_all vs (map f (filter p (upto (i + 1))))
+join_all_more vs f p i true joined e h = ap (λ us. join us (f i)) h ∙ sym (join_all_more-yes vs f p i (sym e))
+join_all_more vs f p i false joined e h = h ∙ sym (join_all_more-no vs f p i (sym e))

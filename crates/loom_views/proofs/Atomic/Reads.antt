@@ -4,7 +4,7 @@ use Rattle.std.specs.Prelude.{◌==◌}
 use Rattle.std.specs.List.{filter, AllByRecursion}
 use Rattle.std.proofs.lemmas.Bool.{cases_Bool, cases_eq, and_parts, false≢true}
 use Rattle.std.proofs.lemmas.Bool.Decides.{nat_tests}
-use Rattle.std.proofs.lemmas.List.{get_or-set_same, get_or-set_other, length-set}
+use Rattle.std.proofs.lemmas.List.{get_or-set_same, get_or-set_other, length-set, set-get_or}
 use Rattle.loom_views.specs.declared.rt.atomic.Store.{Store}
 use Rattle.loom_views.specs.declared.rt.atomic.State.{State}
 use Rattle.loom_views.specs.declared.rt.synchronize.ThreadViews.{ThreadViews}
@@ -71,6 +71,12 @@ module _ (order before : List ℕ) (stores now : List Store) (slot i : ℕ) (e :
 
   pub raise-no : is_slot_above before now slot i ≡ false → now ≡ orders_joined order stores (filter (is_slot_above before stores slot) (upto (i + 1)))
   raise-no h = e ∙ ap (orders_joined order stores) (sym (more-no p i (sym same_test ∙ h)))
+
+  -- it takes in the order, if it does
+  pub raise-if : (is_above : Bool) → is_above ≡ is_slot_above before now slot i
+      → set now i (record (store_at now i) { order = cond is_above (join (store_at now i).order order) (store_at now i).order }) ≡ orders_joined order stores (filter (is_slot_above before stores slot) (upto (i + 1)))
+  raise-if true h = raise-yes (sym h)
+  raise-if false h = set-get_or now i blank_store ∙ raise-no (sym h)
 
 pub slot-stays : (stores : List Store) (n slot : ℕ) (before order : List ℕ) → store_at (raised_above stores n slot before order) slot ≡ store_at stores slot
 slot-stays stores n slot before order =

@@ -73,26 +73,18 @@ not-either : (a b : Bool) → (not a && not b) ≡ not (a || b)
 not-either true b = refl
 not-either false b = refl
 
-or-none : (a : Bool) → (a || false) ≡ a
-or-none true = refl
-or-none false = refl
+unless-both : (a b : Bool) → (not b || not a) ≡ not (a && b)
+unless-both true true = refl
+unless-both true false = refl
+unless-both false true = refl
+unless-both false false = refl
 
-and-all : (a : Bool) → (a && true) ≡ a
-and-all true = refl
-and-all false = refl
-
-pub more_seen : (stores : List Store) (view : List ℕ) (k j : ℕ) (left : Bool) → left ≡ not (list_any (is_below_seen stores view k) (upto j)) → is_touch_in (store_at stores j).first_seen.versions view ≡ true
-    → (left && not (is_slot_below stores k j)) ≡ not (list_any (is_below_seen stores view k) (upto (j + 1)))
-more_seen stores view k j left e seen =
-    let one : is_below_seen stores view k j ≡ is_slot_below stores k j = ap (λ b. is_slot_below stores k j && b) seen ∙ and-all (is_slot_below stores k j) in
-    ap (λ b. b && not (is_slot_below stores k j)) e ∙ not-either (list_any (is_below_seen stores view k) (upto j)) (is_slot_below stores k j)
-    ∙ ap not (ap (λ b. list_any (is_below_seen stores view k) (upto j) || b) (sym one) ∙ sym (any_upto-more (is_below_seen stores view k) j))
-
-pub more_unseen : (stores : List Store) (view : List ℕ) (k j : ℕ) (left : Bool) → left ≡ not (list_any (is_below_seen stores view k) (upto j)) → is_touch_in (store_at stores j).first_seen.versions view ≡ false
-    → left ≡ not (list_any (is_below_seen stores view k) (upto (j + 1)))
-more_unseen stores view k j left e seen =
-    let none : is_below_seen stores view k j ≡ false = ap (λ b. is_slot_below stores k j && b) seen ∙ neither (is_slot_below stores k j) in
-    e ∙ ap not (sym (any_upto-more (is_below_seen stores view k) j ∙ ap (λ b. list_any (is_below_seen stores view k) (upto j) || b) none ∙ or-none (list_any (is_below_seen stores view k) (upto j))))
+pub more_seen : (stores : List Store) (view : List ℕ) (k j : ℕ) (left is_seen : Bool) → left ≡ not (list_any (is_below_seen stores view k) (upto j)) → is_seen ≡ is_touch_in (store_at stores j).first_seen.versions view
+    → (left && (not is_seen || not (is_slot_below stores k j))) ≡ not (list_any (is_below_seen stores view k) (upto (j + 1)))
+more_seen stores view k j left is_seen e seen =
+    ap (λ b. left && b) (unless-both (is_slot_below stores k j) is_seen) ∙ ap (λ b. left && not (is_slot_below stores k j && b)) seen
+    ∙ ap (λ b. b && not (is_below_seen stores view k j)) e ∙ not-either (list_any (is_below_seen stores view k) (upto j)) (is_below_seen stores view k j)
+    ∙ ap not (sym (any_upto-more (is_below_seen stores view k) j))
 
 -- the set, once each was looked at
 pub full_set : (drops : ℕ → ℕ → Bool) (n : ℕ) (xs : List Bool) → 7 ≤ n → length xs ≡ 7 → ((k : ℕ) → k < 7 → get_or xs k false ≡ not (list_any (drops k) (upto 7))) → xs ≡ slot_set (readable_slots drops n)

@@ -2,9 +2,10 @@
 use Rattle.std.proofs.Common.{zero, suc, ◌≡◌, ℕ, ◌+◌, ◌*◌, ◌/◌, ◌%◌, ◌^◌, ◌<◌, ◌≤◌, max, Bool, true, false, cond, eqb, ltb, map, replicate, Fits, w16, List, [], ◌∷◌, length, get_or, set, refl, sym, ap, ap₂, subst, ◌∙◌, arith, inl, inr, pow-add, pow_mono, pow-suc, mod-lt, div-lt_iff_lt-mul, div-add-mod', length-set, get_or-set_same, get_or-set_other, ext_get_or, Option, Some, None}
 use Rattle.std.specs.Prelude.{◌≢◌, IsTrue, MatchOption}
 use Rattle.std.specs.Int.{bit_at, trailing_zeros}
+use lib.Bits.{bit_and}
 use Rattle.std.proofs.Math.Nat.{div-div-eq-div-mul, div-eq_of_lt, zero-div, pow-zero}
 use Rattle.std.proofs.lemmas.Bool.{and_parts, cases_lt, cases_eq, cond_both, false_from_ne_true, lt-ltb, ltb-true, ltb-false}
-use Rattle.std.proofs.lemmas.Nat.Bits.{bit_at-trailing_zeros, bit_at-zero}
+use Rattle.std.proofs.lemmas.Nat.Bits.{and_high, bit_at-trailing_zeros, bit_at-zero}
 use Rattle.std.proofs.lemmas.Simd.{tops_compared, mask_l-mod, bit_mask_l, length-zip2}
 use lib.Lanes.{Each1, zip2, number_l, digits_l, mask_l, sel_l, top}
 use mir.Syntax.{w64}
@@ -311,6 +312,45 @@ ahead-is (Some t) a b h f = elim (cases_lt t 5) [
   }
   | inr far ↦ (let more = f.larger in let none = lane_above b t h far in absurd (omega arith))
 ]
+
+-- ---- the larger numbers, if that holds
+
+all_ones : (n : ℕ) → n < 2 ^ 16 → bit_and n 65535 ≡ n
+all_ones n h = let e : bit_and n 65535 ≡ n / 1 % 65536 * 1 = and_high n 16 0 in omega (arith, e)
+
+no_ones : (n : ℕ) → bit_and n 0 ≡ 0
+no_ones n = let e : bit_and n 0 ≡ n / 1 % 1 * 1 = and_high n 0 0 in omega (arith, e)
+
+all_kept : (word : ℕ) → zip2 bit_and (lanes_in word) (replicate 8 65535) ≡ lanes_in word
+all_kept word =
+    let at = λ (t : ℕ). all_ones (lane word t) (lane-fits word t).fits in
+    λ i. at 0 i ∷ at 1 i ∷ at 2 i ∷ at 3 i ∷ at 4 i ∷ at 5 i ∷ at 6 i ∷ at 7 i ∷ []
+
+none_kept : (word : ℕ) → zip2 bit_and (lanes_in word) (replicate 8 0) ≡ lanes_in 0
+none_kept word =
+    let at = λ (t : ℕ). no_ones (lane word t) in
+    λ i. at 0 i ∷ at 1 i ∷ at 2 i ∷ at 3 i ∷ at 4 i ∷ at 5 i ∷ at 6 i ∷ at 7 i ∷ []
+
+pub larger_if_at : (word other : ℕ) (xs ys : List ℕ) (holds : Bool) → word < 2 ^ 128 → other < 2 ^ 128 → xs ≡ lanes_in word → ys ≡ lanes_in other
+    → (t : ℕ) → lane (word_of (zip2 max xs (zip2 bit_and ys (replicate 8 (cond holds 65535 0))))) t ≡ cond holds (max (lane word t) (lane other t)) (lane word t)
+larger_if_at word other xs ys true h k e d t =
+    ap (λ ms. lane (word_of (zip2 max xs ms)) t) (ap (λ us. zip2 bit_and us (replicate 8 65535)) d ∙ all_kept other)
+    ∙ larger_at word other xs (lanes_in other) h k e refl t
+larger_if_at word other xs ys false h k e d t =
+    let none : lane 0 t ≡ 0 = ap (λ n. n % 2 ^ 16) (zero-div (2 ^ (16 * t))) in
+    ap (λ ms. lane (word_of (zip2 max xs ms)) t) (ap (λ us. zip2 bit_and us (replicate 8 0)) d ∙ none_kept other)
+    ∙ larger_at word 0 xs (lanes_in 0) h (omega arith) e refl t ∙ omega (arith, none)
+
+pub counts_joined_if : (a b word : ℕ) (holds : Bool) → ((t : ℕ) → lane word t ≡ cond holds (max (lane a t) (lane b t)) (lane a t)) → counts_in word ≡ cond holds (join (counts_in a) (counts_in b)) (counts_in a)
+counts_joined_if a b word true e = counts_joined a b word e
+counts_joined_if a b word false e = λ i. e 0 i ∷ e 1 i ∷ e 2 i ∷ e 3 i ∷ e 4 i ∷ []
+
+pub joined_if_kept : (a b word : ℕ) (holds : Bool) → IsCounted (counts_in a) × (a < 2 ^ 80) → IsCounted (counts_in b) × (b < 2 ^ 80) → word < 2 ^ 128 → ((t : ℕ) → lane word t ≡ cond holds (max (lane a t) (lane b t)) (lane a t))
+    → IsCounted (counts_in word) × (word < 2 ^ 80)
+joined_if_kept a b word true p q h e = joined_kept a b word p q h e
+joined_if_kept a b word false p q h e = kept word h
+    (λ t. let at = e t in let l = lane-counted a t p.0 p.1 in omega arith)
+    (λ t far. e t ∙ lane_above a t p.1 far)
 
 -- ---- a lane that is chosen
 

@@ -4,6 +4,7 @@
 //! history by points. Slots are numbered from 0: the store with number `n` is kept in slot `n` modulo `MAX_ATOMIC_HISTORY`.
 //! The thread has raised its version before the call. Where a call fails, the atomic and the thread's views are as before.
 mod choosing;
+mod joining;
 pub mod reader;
 pub mod touches;
 
@@ -12,10 +13,10 @@ ghost use Rattle.loom_views.specs.InOrder.{PairAll, PairsTouches, PairsStores, P
 ghost use Rattle.loom_views.specs.Limits.{highest_version, most_stores};
 ghost use Rattle.loom_views.specs.Packed.{empty_store, whole};
 ghost use Rattle.loom_views.specs.declared.rt.atomic.Store.{Store};
-ghost use Rattle.loom_views.specs.Versions.{join, join_all};
+ghost use Rattle.loom_views.specs.Versions.{join};
 ghost use Rattle.loom_views.specs.Atomic.Touches.{untouched};
 ghost use Rattle.loom_views.specs.declared.rt.failure.FailureKind.TheVariants.{TooManyStores};
-ghost use Rattle.loom_views.specs.Atomic.Ring.{is_touch_in, is_version_before, touch_version, store_at, is_order_seen, orders_seen, is_slot_above, raised_above, state_read, state_made, load_tracked, store_tracked, unsync_load_tracked, unsync_mut_tracked, newest_slot, state_blank};
+ghost use Rattle.loom_views.specs.Atomic.Ring.{is_touch_in, is_version_before, touch_version, store_at, state_read, state_made, load_tracked, store_tracked, unsync_load_tracked, unsync_mut_tracked, newest_slot, state_blank};
 ghost use Rattle.loom_views.specs.Graph.{Graph, IsChained, IsPresent};
 ghost use Rattle.loom_views.specs.ThreadViews.{ThreadPoints, ShowsThread};
 ghost use Rattle.loom_views.specs.Atomic.Fences.{standing_in, scene_at, after_store, acquire_fence_step};
@@ -111,49 +112,12 @@ impl State {
         usize::from(self.count).min(MAX_ATOMIC_HISTORY)
     }
 
-    /// Whether the store in a slot is seen in a view, and the slot isn't left out.
-    fn is_order_seen(&self, view: &VersionVec, left_out: Option<usize>, i: usize) -> bool
-        requires { i < 7 }
-        ensures { result ≡ is_order_seen self.now.stores view.now left_out i }
+    /// Whether each slot has a store.
+    #[inline(always)]
+    fn is_full(&self) -> bool
+        ensures { IsTrue result → 7 ≤ self.now.count }
     {
-        left_out != Some(i) && self.stores[i].first_seen.is_seen_from(view)
-    }
-
-    /// An order with those of the kept stores that are seen in a view, but for a slot that is left out.
-    fn with_orders_seen(
-        &self,
-        order: VersionVec,
-        view: &VersionVec,
-        left_out: Option<usize>,
-    ) -> VersionVec
-        ensures { result ≡ join_all order (orders_seen self.now.stores self.now.count view.now left_out) }
-    {
-        let mut joined = order;
-        for i in 0..self.kept() {
-            if self.is_order_seen(view, left_out, i) {
-                joined.join(&self.stores[i].order);
-            }
-        }
-        joined
-    }
-
-    /// Whether the order of the store in slot `i` contains an order, and the slot isn't left out.
-    fn is_above(&self, before: &VersionVec, left_out: usize, i: usize) -> bool
-        requires { i < 7 }
-        ensures { result ≡ is_slot_above before.now self.now.stores left_out i }
-    {
-        i != left_out && before.is_within(&self.stores[i].order)
-    }
-
-    /// Each kept store but the one in a slot takes in an order, where its own contains what that one's order was before.
-    fn raise_above(&mut self, slot: usize, before: &VersionVec, order: &VersionVec)
-        ensures { self.new ≡ record self.old { stores = raised_above self.old.stores self.old.count slot before.now order.now } }
-    {
-        for i in 0..self.kept() {
-            if self.is_above(before, slot, i) {
-                self.stores[i].order.join(order);
-            }
-        }
+        usize::from(self.count) >= MAX_ATOMIC_HISTORY
     }
 
     /// Reads the store in a slot. Its order takes in those of the other kept stores that are seen, and the thread touches it. Then

@@ -1,7 +1,7 @@
 //! Version vectors: how often each thread has raised its version, as far as a view reaches. They are plain values; no call
 //! here takes memory.
 
-ghost use Rattle.std.specs.Prelude.{◌≡◌, ◌≢◌, ◌∷◌, [], ℕ, ◌+◌, ◌<◌, ◌≤◌, ◌↔◌, false, IsTrue, IfSome, slice_index, MatchOption};
+ghost use Rattle.std.specs.Prelude.{◌≡◌, ◌≢◌, ◌∷◌, [], ℕ, ◌+◌, ◌<◌, ◌≤◌, ◌↔◌, false, IsTrue, IfSome, slice_index, MatchOption, if◌then◌else◌};
 ghost use Rattle.loom_views.specs.InOrder.{PairsVectors, Ranked};
 ghost use Rattle.std.specs.Bool.{OnTrue, OnFalse};
 ghost use Rattle.loom_views.specs.Lanes.{IsLaidOut, word_digest};
@@ -109,6 +109,13 @@ impl VersionVec {
         ensures bound { IsLeastUpperBound self.old other.now self.new }
     {
         self.word = lanes::larger(self.word, other.word);
+    }
+
+    /// `join`, if that holds (own).
+    pub fn join_if(&mut self, other: &VersionVec, holds: bool)
+        ensures { self.new ≡ (if holds then join self.old other.now else self.old) }
+    {
+        self.word = lanes::larger_if(self.word, other.word, holds);
     }
 
     /// The lowest thread whose count is larger in the other vector, and none exactly if the other one is inside this one

@@ -1,6 +1,6 @@
 //! Which stores of an atomic a reader may choose.
 
-ghost use Rattle.std.specs.Prelude.{◌≡◌, ℕ, ◌<◌, ◌≤◌, ◌==◌, ◌&&◌, not, IsTrue, slice_index_or, false, MatchResult, length};
+ghost use Rattle.std.specs.Prelude.{◌≡◌, ℕ, ◌<◌, ◌≤◌, ◌==◌, ◌&&◌, ◌||◌, not, IsTrue, slice_index_or, false, MatchResult, length};
 ghost use Rattle.std.specs.List.{list_any};
 ghost use Rattle.loom_views.specs.Orderings.{is_seq_cst};
 ghost use Rattle.loom_views.specs.declared.rt.atomic.Store.{Store};
@@ -129,9 +129,7 @@ impl State {
         ensures sight { IsTrue result → (t : ℕ) (i j : Store) → drops_store t views.now reader i j ≡ (is_order_below i j && is_touch_in j.first_seen.versions views.now.present) }
         ensures differ { IsTrue result → HaveOtherOrders self.now }
     {
-        usize::from(self.count) >= MAX_ATOMIC_HISTORY
-            && is_by_sight(views, reader)
-            && self.orders_differ()
+        self.is_full() && is_by_sight(views, reader) && self.orders_differ()
     }
 
     /// Whether it is seen that no two slots have stores of equal orders.
@@ -168,24 +166,23 @@ impl State {
     {
         let mut set = [true; MAX_ATOMIC_HISTORY];
         for j in 0..MAX_ATOMIC_HISTORY {
-            if self.stores[j].first_seen.is_seen_from(view) {
-                self.leave_below(&mut set, j);
-            }
+            let is_seen = self.stores[j].first_seen.is_seen_from(view);
+            self.leave_below(&mut set, j, is_seen);
         }
         set
     }
 
-    /// The slots whose stores are below the one in slot `j` leave the set.
-    // Without a branch: which ones these are can often not be foretold.
+    /// The slots whose stores are below the one in slot `j` leave the set, if that one is seen.
+    // Without a branch: whether it is, and which ones these are, can often not be foretold.
     #[inline(always)]
-    fn leave_below(&self, set: &mut [bool; MAX_ATOMIC_HISTORY], j: usize)
+    fn leave_below(&self, set: &mut [bool; MAX_ATOMIC_HISTORY], j: usize, is_seen: bool)
         requires slot_in { j < 7 }
         requires differ { HaveOtherOrders self.now }
         ensures size { length set.new ≡ 7 }
-        ensures left { (i : ℕ) → i < 7 → slice_index_or set.new i false ≡ (slice_index_or set.old i false && not (is_slot_below self.now.stores i j)) }
+        ensures left { (i : ℕ) → i < 7 → slice_index_or set.new i false ≡ (slice_index_or set.old i false && (not is_seen || not (is_slot_below self.now.stores i j))) }
     {
         for i in 0..MAX_ATOMIC_HISTORY {
-            set[i] &= self.is_left_by(i, j);
+            set[i] &= !is_seen | self.is_left_by(i, j);
         }
     }
 

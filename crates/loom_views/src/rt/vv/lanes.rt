@@ -1,7 +1,7 @@
 //! A word of 128 bits as eight lanes of 16 bits, of which a version vector gives one to each thread (own). Only this file knows
 //! which bits a lane is.
 
-ghost use Rattle.std.specs.Prelude.{◌≡◌, ◌≢◌, ◌↔◌, ◌∷◌, [], ℕ, ◌<◌, ◌≤◌, IsTrue, MatchOption, max};
+ghost use Rattle.std.specs.Prelude.{◌≡◌, ◌≢◌, ◌↔◌, ◌∷◌, [], ℕ, ◌<◌, ◌≤◌, IsTrue, MatchOption, max, if◌then◌else◌};
 ghost use Rattle.loom_views.specs.Lanes.{lane, lanes_in, word_of, AreLarger, IsFirstLarger};
 
 use std::simd::{u16x8, u64x2};
@@ -40,6 +40,24 @@ pub fn larger(word: u128, other: u128) -> u128
     let own = lanes(word);
     let others = lanes(other);
     word_of(own.simd_max(others))
+}
+
+/// The word with the larger number of each lane, if that holds, or else the word as it is (own).
+// Without a branch: whether it holds can often not be foretold.
+pub fn larger_if(word: u128, other: u128, holds: bool) -> u128
+    ensures { (t : ℕ) → lane result t ≡ (if holds then max (lane word t) (lane other t) else lane word t) }
+{
+    let own = lanes(word);
+    let others = lanes(other);
+    let kept = u16x8::splat(all_or_none(holds));
+    word_of(own.simd_max(others & kept))
+}
+
+/// A lane's bits, all of them set if that holds, or else none.
+fn all_or_none(holds: bool) -> u16
+    ensures { result ≡ (if holds then 65535 else 0) }
+{
+    if holds { u16::MAX } else { 0 }
 }
 
 /// The lowest lane of which the other word has the larger number, and none exactly if there is no such lane (own).

@@ -2,7 +2,7 @@ use Rattle.std.proofs.Common.{◌≡◌}
 use Rattle.std.specs.List.{filter}
 use Rattle.loom_views.specs.Atomic.Slots.{upto}
 use Rattle.loom_views.specs.Atomic.Ring.{orders_joined, is_slot_above}
-use Rattle.loom_views.proofs.rt.atomic.State.raise_above.Given as goal
+use Rattle.loom_views.proofs.rt.atomic.State.raise_each_above.Given as goal
 
 -- the stores so far have taken in the order
 abbrev pub invariant-loop-i : goal.invariant-loop-i

@@ -5,8 +5,8 @@ use Rattle.loom_views.specs.Atomic.Ring.{store_at, blank_store, order_joined, is
 use Rattle.loom_views.specs.declared.rt.atomic.State.{State}
 use Rattle.loom_views.specs.declared.rt.atomic.Store.{Store}
 use Rattle.loom_views.proofs.Atomic.Reads.{raise-yes, raise-no}
-use Rattle.loom_views.proofs.rt.atomic.State.raise_above.Goals as goal
-use Rattle.loom_views.proofs.rt.atomic.State.raise_above.Goals.{then-is_above, else-is_above}
+use Rattle.loom_views.proofs.rt.atomic.State.raise_few_above.Goals as goal
+use Rattle.loom_views.proofs.rt.atomic.State.raise_few_above.Goals.{then-is_above, else-is_above}
 
 pub loop-i-preserved : goal.loop-i-preserved
 loop-i-preserved c =

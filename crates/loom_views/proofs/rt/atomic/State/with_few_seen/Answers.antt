@@ -4,8 +4,8 @@ use Rattle.loom_views.specs.Versions.{join}
 use Rattle.loom_views.specs.Atomic.Ring.{is_order_seen, store_at, blank_store}
 use Rattle.loom_views.specs.declared.rt.atomic.Store.{Store}
 use Rattle.loom_views.proofs.Atomic.Loops.{join_all_more-yes, join_all_more-no}
-use Rattle.loom_views.proofs.rt.atomic.State.with_orders_seen.Goals as goal
-use Rattle.loom_views.proofs.rt.atomic.State.with_orders_seen.Goals.{then-is_order_seen, else-is_order_seen}
+use Rattle.loom_views.proofs.rt.atomic.State.with_few_seen.Goals as goal
+use Rattle.loom_views.proofs.rt.atomic.State.with_few_seen.Goals.{then-is_order_seen, else-is_order_seen}
 
 pub loop-i-preserved : goal.loop-i-preserved
 loop-i-preserved c =
