@@ -102,8 +102,8 @@ impl<T: Drop + Same> Shelf<T> {
         }
     }
 
-    /// A value that is the same, if one of this digest is found.
-    fn find(&self, value: &T, digest: u64) -> Option<&Shared<T>>
+    /// A value that is the same, if one of this digest is found (own).
+    pub fn find(&self, value: &T, digest: u64) -> Option<&Shared<T>>
         ensures { IfSome result (λ shared. shared.now ≡ value.now) }
     {
         let mut next = self.last(digest);

@@ -106,10 +106,24 @@ impl<D: Data + Same, B: Body + Same> Shelves<D, B> {
                 Some(thread) => digest_of_thread(thread),
                 None => 0,
             };
-            let body = body.try_clone()?;
-            shared.push(self.bodies.shared(alloc, body, digest)?)?;
+            shared.push(shared_body(alloc, &mut self.bodies, body, digest)?)?;
         }
         Ok(Sequence::from_vec(shared))
+    }
+}
+
+/// The body, shared with whom was given the same one with this digest before. An error where memory is refused.
+fn shared_body<B: Body + Same>(
+    alloc: Global,
+    shelf: &mut Shelf<B>,
+    body: &B,
+    digest: u64,
+) -> Result<Shared<B>, AllocError>
+    ensures { IfOk result (λ shared. shared ≡ body.now) }
+{
+    match shelf.find(body, digest) {
+        Some(shared) => shared.try_clone(),
+        None => shelf.put(alloc, body.try_clone()?, digest),
     }
 }
 

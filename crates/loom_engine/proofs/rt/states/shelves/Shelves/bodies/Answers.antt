@@ -6,4 +6,4 @@ pub loop-body-preserved : goal.loop-body-preserved
 loop-body-preserved g c =
     let below : c.loop-body.body-index < length c.args.bodies.now = omega (arith, c.loop-body-test.true) in
     let next = take_more c.args.bodies.now c.loop-body.body-index c.body-item.result below in
-    cc (c.in_ok-push.ensures.items, c.loop-body.invariant, c.in_ok-shared-2.ensures, c.in_ok-body.ensures, c.body-item.is, next)
+    cc (c.in_ok-push.ensures.items, c.loop-body.invariant, c.in_ok-shared_body.ensures, c.body-item.is, next)
