@@ -1,6 +1,6 @@
 //! What is kept of single objects, in little room, so that it can be shared.
 
-ghost use Rattle.std.specs.Prelude.{◌≡◌, ◌∷◌, [], IfOk, IsTrue};
+ghost use Rattle.std.specs.Prelude.{◌≡◌, ◌∷◌, [], IfOk, IfSome, IsTrue};
 ghost use Rattle.loom_views.specs.Packed.{all_stores, unpacked_one};
 
 use crate::rt::atomic::Store;
@@ -8,7 +8,7 @@ use crate::rt::views::packed::{Packed, PackedPlaces};
 use crate::rt::vv::mixed;
 use crate::same::{Same, are_same};
 use crate::sequence::Sequence;
-use crate::shelf::{Shared, Shelf};
+use crate::shelf::{MOST_COMPARED, Shared, Shelf};
 use std::alloc::{AllocError, Global};
 use std::marker::Model;
 
@@ -28,13 +28,6 @@ impl Model for Place {
     ghost view = { λ p. unpacked_one p.one p.stores };
 }
 
-impl Same for Place {
-    #[tactic(auto, using(crate::proofs::Places::place_same))]
-    fn is_same(&self, other: &Place) -> bool {
-        self.one.is_same(&other.one) && are_same(self.stores.as_slice(), other.stores.as_slice())
-    }
-}
-
 impl Place {
     /// What is kept of an object that has these stores. An error where memory is refused.
     fn new(alloc: Global, one: Packed, stores: &[Store]) -> Result<Place, AllocError>
@@ -50,15 +43,6 @@ impl Place {
         ensures { IsTrue result → self.now ≡ unpacked_one one.now stores.now }
     {
         self.one.is_same(one) && are_same(self.stores.as_slice(), stores)
-    }
-
-    /// A number that depends on it alone.
-    fn digest(&self) -> u64 {
-        let mut digest = self.one.digest();
-        for store in self.stores.as_slice() {
-            digest = mixed(digest, store.digest());
-        }
-        digest
     }
 }
 
@@ -88,9 +72,7 @@ impl PackedPlaces {
         let mut left = self.stores.as_slice();
         while let Some((one, tail)) = rest.split_first() {
             let (stores, others) = left.split_at(one.stores());
-            let place = Place::new(alloc, *one, stores)?;
-            let digest = place.digest();
-            places.push(shelf.shared(alloc, place, digest)?)?;
+            places.push(shared_place(alloc, shelf, one, stores)?)?;
             rest = tail;
             left = others;
         }
@@ -118,4 +100,50 @@ impl PackedPlaces {
         }
         same.is_empty()
     }
+}
+
+/// What is kept of an object that has these stores, on the shelf. An error where memory is refused.
+fn shared_place(
+    alloc: Global,
+    shelf: &mut Shelf<Place>,
+    one: &Packed,
+    stores: &[Store],
+) -> Result<Shared<Place>, AllocError>
+    ensures { IfOk result (λ place. place ≡ unpacked_one one.now stores.now) }
+{
+    let digest = digest_of(one, stores);
+    match find_place(shelf, one, stores, digest) {
+        Some(place) => place.try_clone(),
+        None => shelf.put(alloc, Place::new(alloc, *one, stores)?, digest),
+    }
+}
+
+/// What is kept of an object that has these stores, if one of this digest is found.
+fn find_place<'a>(
+    shelf: &'a Shelf<Place>,
+    one: &Packed,
+    stores: &[Store],
+    digest: u64,
+) -> Option<&'a Shared<Place>>
+    ensures { IfSome result (λ place. place.now ≡ unpacked_one one.now stores.now) }
+{
+    let mut next = shelf.last(digest);
+    for _ in 0..MOST_COMPARED {
+        let number = next?;
+        let place = shelf.get(number)?;
+        if place.get().is_of(one, stores) {
+            return Some(place);
+        }
+        next = shelf.before(number, digest);
+    }
+    None
+}
+
+/// A number that depends on what is kept of an object alone.
+fn digest_of(one: &Packed, stores: &[Store]) -> u64 {
+    let mut digest = one.digest();
+    for store in stores {
+        digest = mixed(digest, store.digest());
+    }
+    digest
 }
