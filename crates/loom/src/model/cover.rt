@@ -29,6 +29,7 @@ use crate::model::run::Room;
 use crate::model::visitor::Visitor;
 use log::Log;
 use loom_engine::rt::path::Path;
+use loom_engine::rt::path::choices::ChoiceList;
 use loom_engine::rt::states::States;
 use loom_engine::rt::states::ways::Ways;
 use loom_objects::body::Body;
@@ -228,6 +229,7 @@ impl Builder {
         let mut path = self.begin_cover(alloc, store)?;
         let mut until_save = interval - 1;
         let mut ways = Ways::new(alloc);
+        let mut choices = ChoiceList::new(alloc);
         let (mut runs, mut met) = (0u64, 0u64);
         loop {
             if let Some(limit) = self.reached(runs + met, clock) {
@@ -251,7 +253,8 @@ impl Builder {
                     return Ok(failed(runs, met, states.len(), failing));
                 }
             };
-            ways.add_run(states.led_by(), noted, path.choices(alloc)?.as_slice(), to)?;
+            choices = path.choices_after(choices)?;
+            ways.add_run(states.led_by(), noted, choices.as_slice(), to)?;
             if !path.step() {
                 log_runs(log, "completed in ", runs + met, " iterations");
                 return Ok(told(alloc, runs, met, states.led_by(), &ways)?);

@@ -15,7 +15,7 @@ use Rattle.loom_objects.specs.declared.choice.Choice.{Choice}
 use Rattle.loom_engine.specs.Walk.Path.{Stored, advance}
 use Rattle.loom_engine.specs.Path.Nodes.{seen, stored, IsWell, AreWell}
 use Rattle.loom_engine.specs.Path.WellFormed.{bare, AreAlike}
-use Rattle.loom_engine.specs.Path.Words.{bits, bit, beside, first_number, status_number, first_of, status_of, is_one, kind_in, schedule_in, node_in, nodes_in, word_of, places_of, IsSet, IsFit, AreLaidOut}
+use Rattle.loom_engine.specs.Path.Words.{bits, bit, beside, first_number, status_number, first_of, status_of, is_one, kind_in, schedule_in, node_in, choice_in, nodes_in, word_of, places_of, IsSet, IsFit, AreLaidOut}
 
 -- ---- a word by its parts: what is below some bits, what they are, and what is above them
 
@@ -481,3 +481,16 @@ laid_schedule (v ∷ ws) (p ∷ ps) zero w n A h l e s a =
     let is : node_in v p ≡ node.Schedule n = cc s in
     subst A (ap (λ (k : ℕ). schedule_in k p) e ∙ schedule_of (bits v 0 2) v p n is) (a p)
 laid_schedule (v ∷ ws) (p ∷ ps) (suc i) w n A h l e s a = laid_schedule ws ps i w n A h.1 (omega arith) e s a
+
+choice_kind : (k w : ℕ) (p q : Places) → (seen (kind_in k w p)).present ≡ (seen (kind_in k w q)).present
+choice_kind zero w p q = refl
+choice_kind (suc zero) w p q = refl
+choice_kind (suc (suc n)) w p q = refl
+
+-- the choices at the first of the nodes that words are
+pub laid_choices : (ws : List ℕ) (ps : List Places) (count : ℕ) → AreLaidOut ws ps → map choice_in (take count ws) ≡ map (λ (n : Node). (seen n).present) (take count (nodes_in ws ps))
+laid_choices ws ps zero h = refl
+laid_choices [] ps (suc count) h = refl
+laid_choices (w ∷ ws) [] (suc count) h = absurd h
+laid_choices (w ∷ ws) (p ∷ ps) (suc count) h =
+    ap₂ (λ (c : Choice) (l : List Choice). c ∷ l) (choice_kind (bits w 0 2) w (record { switch = None; nearest = None }) p) (laid_choices ws ps count h.1)

@@ -6,6 +6,8 @@
 --
 -- All other bits are zero. What stands in a list, as the statuses do, has its first part lowest.
 use Rattle.std.specs.Prelude.{ℕ, zero, suc, ◌≡◌, ◌+◌, ◌*◌, ◌/◌, ◌%◌, ◌^◌, ◌<◌, ◌≤◌, ◌⊎◌, Bool, true, false, List, [], ◌∷◌, length, map, Option, Some, None, IfSome}
+use Rattle.loom_objects.specs.declared.choice.Choice.{Choice}
+use Rattle.loom_engine.specs.Path.Nodes.{seen}
 use Rattle.loom_engine.specs.declared.rt.path.node.Status.{Status}
 use Rattle.loom_engine.specs.declared.rt.path.node.Status.TheVariants.{Disabled, Skip, Yield, Pending, Active, Visited}
 use Rattle.loom_engine.specs.declared.rt.path.node.Node.{Node}
@@ -128,6 +130,10 @@ kind_in (suc (suc n)) word places = node.Spurious (spurious_in word)
 -- the node that a word is, with the places beside it
 abbrev pub node_in : ℕ → Places → Node
 node_in word places = kind_in (bits word 0 2) word places
+
+-- what was chosen at the node that a word is, whatever is noted beside it
+abbrev pub choice_in : ℕ → Choice
+choice_in word = (seen (node_in word (record { switch = None; nearest = None }))).present
 
 -- the places that a node notes beside its word
 abbrev pub places_of : Node → Places

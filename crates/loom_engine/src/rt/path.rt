@@ -1,6 +1,7 @@
 //! The path of a search: the nodes at which its run has chosen, and what is left to try at each (loom's `rt/path.rs`).
 pub mod backtrack;
 pub mod checkpoint;
+pub mod choices;
 pub mod drawing;
 pub mod list;
 pub mod making;
@@ -27,6 +28,7 @@ ghost use Rattle.loom_engine.specs.Path.Tallies.{Notes, IsNotedAt, AreNoted, IsV
 ghost use Rattle.loom_engine.specs.Path.WellFormed.{AreAlike, AreAtRest, AreWellFormed, Appends};
 ghost use Rattle.loom_engine.specs.Path.Words.{word_of};
 
+use crate::rt::path::choices::ChoiceList;
 use crate::rt::path::list::NodeList;
 use crate::rt::path::making::is_below;
 use crate::rt::path::node::{Load, Node, Schedule, Spurious, Tally};
@@ -542,6 +544,13 @@ impl Path {
             return Ok(Vec::new(alloc));
         }
         choices_at(alloc, &self.nodes.list, self.nodes.position)
+    }
+
+    /// `choices`, in the room of those of a run before: what both begin with isn't made again (own). An error where memory is refused.
+    pub fn choices_after(&self, before: ChoiceList) -> Result<ChoiceList, AllocError>
+        ensures { IfOk result (λ choices. choices ≡ chosen self.now) }
+    {
+        self.nodes.list.choices(self.nodes.position, before)
     }
 
     /// After a run, goes on to the next one: the deepest node that has an option left takes it, and what follows it is

@@ -14,6 +14,7 @@ ghost use Rattle.loom_engine.specs.Walk.Path.{Stored};
 
 use crate::rt::execution::Execution;
 use crate::rt::path::Path;
+use crate::rt::path::choices::ChoiceList;
 use crate::rt::states::shelves::Shelves;
 use loom_objects::body::Body;
 use loom_objects::choice::Choice;
@@ -165,6 +166,8 @@ pub struct States<D, B> {
     shelves: Shelves<D, B>,
     // views that were written for a look-up, in whose room the next one writes its own
     spare: Option<RankedViews>,
+    // the choices by which a run came to the last one
+    made: Option<ChoiceList>,
     most: usize,
     never_switches: bool,
     alloc: Global,
@@ -190,6 +193,7 @@ impl<D: Data + Same, B: Body + Same> States<D, B> {
             chains: Chains::new(alloc)?,
             shelves: Shelves::new(alloc)?,
             spare: None,
+            made: None,
             most,
             never_switches,
             alloc,
@@ -206,6 +210,7 @@ impl<D: Data + Same, B: Body + Same> States<D, B> {
             chains: Chains::none(alloc),
             shelves: Shelves::none(alloc),
             spare: None,
+            made: None,
             most: 0,
             never_switches,
             alloc,
@@ -360,8 +365,23 @@ impl<D: Data + Same, B: Body + Same> States<D, B> {
             return Ok(());
         }
         let state = self.kept(execution, bodies, views)?;
-        let choices = path.choices(self.alloc)?;
-        self.add(state, digest, Sequence::from_vec(choices))
+        let choices = self.choices_along(path)?;
+        self.add(state, digest, choices)
+    }
+
+    /// The choices that the run has made along its path. Nothing is noted. An error where memory is refused.
+    fn choices_along(&mut self, path: &Path) -> Result<Sequence<Choice>, AllocError>
+        ensures choices { IfOk result (λ choices. choices ≡ chosen path.now) }
+        ensures same { self.new ≡ self.old }
+    {
+        let before = match self.made.take() {
+            Some(made) => made,
+            None => ChoiceList::new(self.alloc),
+        };
+        let made = path.choices_after(before)?;
+        let choices = Vec::from_slice(self.alloc, made.as_slice())?;
+        self.made = Some(made);
+        Ok(Sequence::from_vec(choices))
     }
 
     /// What is kept of the run, with these views in place of its own. Nothing is noted. An error where memory is refused.

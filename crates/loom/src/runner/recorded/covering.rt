@@ -31,6 +31,7 @@ use crate::runner::stop::Stop;
 use crate::runner::watcher::Watcher;
 use log::Log;
 use loom_engine::rt::path::Path;
+use loom_engine::rt::path::choices::ChoiceList;
 use loom_engine::rt::states::States;
 use loom_engine::rt::states::ways::Ways;
 use loom_objects::failure::Failure;
@@ -212,6 +213,7 @@ fn cover_rounds<D: Exact + Same, V: Visitor<D>, C: Clock, S: CheckpointStore, L:
     let mut path = builder.begin_cover(alloc, store)?;
     let mut until_save = interval - 1;
     let mut ways = Ways::new(alloc);
+    let mut choices = ChoiceList::new(alloc);
     let (mut runs, mut met) = (0u64, 0u64);
     loop {
         if let Some(limit) = builder.reached(runs + met, clock) {
@@ -235,7 +237,8 @@ fn cover_rounds<D: Exact + Same, V: Visitor<D>, C: Clock, S: CheckpointStore, L:
                 return Ok(failed(runs, met, states.len(), failing));
             }
         };
-        ways.add_run(states.led_by(), noted, path.choices(alloc)?.as_slice(), to)?;
+        choices = path.choices_after(choices)?;
+        ways.add_run(states.led_by(), noted, choices.as_slice(), to)?;
         if !path.step() {
             log_runs(log, "completed in ", runs + met, " iterations");
             return Ok(told(alloc, runs, met, states.led_by(), &ways)?);

@@ -1,15 +1,16 @@
 //! The nodes of a path in order, a word for each (own).
 
-ghost use Rattle.std.specs.Prelude.{◌≡◌, ◌<◌, ◌==◌, ◌↔◌, ◌++◌, ◌∷◌, ℕ, List, Option, [], IfOk, IfErr, IfSome, IsSomeAnd, IsTrue, None, length, map, slice_get, slice_set, slice_index_or, take, Some};
+ghost use Rattle.std.specs.Prelude.{◌≡◌, ◌<◌, ◌≤◌, ◌==◌, ◌↔◌, ◌++◌, ◌∷◌, ℕ, List, Option, [], IfOk, IfErr, IfSome, IsSomeAnd, IsTrue, None, length, map, slice_get, slice_set, slice_index_or, take, Some};
 ghost use Rattle.std.specs.Option.{option_map};
 ghost use Rattle.loom_engine.specs.Walk.Path.{advance};
 ghost use Rattle.loom_objects.specs.Tree.Question.{made_of};
 ghost use Rattle.loom_objects.specs.Tree.Asked.{which_thread};
 ghost use Rattle.loom_engine.specs.declared.rt.path.node.Schedule.{Schedule};
-ghost use Rattle.loom_engine.specs.Path.Nodes.{active_thread, seen_schedule, stored, AreWell};
+ghost use Rattle.loom_engine.specs.Path.Nodes.{active_thread, seen, seen_schedule, stored, AreWell};
 ghost use Rattle.loom_engine.specs.Path.WellFormed.{AreAlike};
 ghost use Rattle.loom_engine.specs.Path.Words.{word_of, IsFit};
 
+use crate::rt::path::choices::ChoiceList;
 use crate::rt::path::node::{Node, Places};
 use crate::rt::path::word;
 use loom_objects::choice::Choice;
@@ -86,6 +87,14 @@ impl NodeList {
         ensures { option_map (λ node. node.present) (slice_get (stored self.now) place) ≡ Some result }
     {
         word::choice(self.words[place])
+    }
+
+    /// What was chosen at each of the first so many nodes, in the room of these choices. An error where memory is refused (own).
+    pub fn choices(&self, count: usize, before: ChoiceList) -> Result<ChoiceList, AllocError>
+        requires { count ≤ length self.now }
+        ensures { IfOk result (λ choices. choices ≡ map (λ node. (seen node).present) (take count self.now)) }
+    {
+        before.with_words(&self.words[..count])
     }
 
     /// The thread that is the choice at the schedule at a place (own).

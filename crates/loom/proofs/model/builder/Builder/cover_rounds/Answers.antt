@@ -170,7 +170,7 @@ returns-then-not-step-clause-covers g c =
     let made = c.as_slice.result.now in
     let to = c.match-branch-5.to in
     let grown = c.add_run.new.self in
-    let is_made : made ≡ chosen after = c.as_slice.ensures.value ∙ c.in_ok-choices.ensures.list in
+    let is_made : made ≡ chosen after = c.as_slice.ensures ∙ c.in_ok-choices.ensures in
     let added : HasAdded b g.B.Body.next c.args.body.now g.R.Receiver.receives c.args.receiver.now here.start noted more made to ways grown =
     record {
       adds = subst (λ l. AddsRun l made to ways.ways grown.ways) c.led_by.ensures c.in_ok-add_run.ensures.adds;
@@ -214,7 +214,7 @@ loop-limit-preserved g c =
     let made = c.as_slice.result.now in
     let to = c.match-branch-5.to in
     let grown = c.add_run.new.self in
-    let is_made : made ≡ chosen after = c.as_slice.ensures.value ∙ c.in_ok-choices.ensures.list in
+    let is_made : made ≡ chosen after = c.as_slice.ensures ∙ c.in_ok-choices.ensures in
     let added : HasAdded b g.B.Body.next c.args.body.now g.R.Receiver.receives c.args.receiver.now here.start noted more made to ways grown =
     record {
       adds = subst (λ l. AddsRun l made to ways.ways grown.ways) c.led_by.ensures c.in_ok-add_run.ensures.adds;

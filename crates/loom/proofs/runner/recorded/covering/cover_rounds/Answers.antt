@@ -98,7 +98,7 @@ returns-then-not-step-clause-covers g c = λ does words true.
     let made = c.as_slice.result.now in
     let to = c.match-branch-5.to in
     let grown = c.add_run.new.self in
-    let is_made : made ≡ chosen after = c.as_slice.ensures.value ∙ c.in_ok-choices.ensures.list in
+    let is_made : made ≡ chosen after = c.as_slice.ensures ∙ c.in_ok-choices.ensures in
     let number : c.len-noted.result ≡ length noted.states = c.len-noted.ensures ∙ sym (length-map c.loop-limit.states.states (told_in words)) in
     let added : HasAdded b next [] takes v0 here.start noted more made to ways grown =
     record {
@@ -154,7 +154,7 @@ loop-limit-preserved g c =
           let made = c.as_slice.result.now in
           let to = c.match-branch-5.to in
           let grown = c.add_run.new.self in
-          let is_made : made ≡ chosen after = c.as_slice.ensures.value ∙ c.in_ok-choices.ensures.list in
+          let is_made : made ≡ chosen after = c.as_slice.ensures ∙ c.in_ok-choices.ensures in
           let number : c.len-noted.result ≡ length noted.states = c.len-noted.ensures ∙ sym (length-map c.loop-limit.states.states (told_in words)) in
           let added : HasAdded b next [] takes v0 here.start noted more made to ways grown =
           record {
