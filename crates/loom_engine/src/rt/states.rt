@@ -50,10 +50,12 @@ pub struct State<D, B> {
 }
 
 impl<D: Data + Same, B: Body + Same> State<D, B> {
-    /// What is kept of where a run stands, with these views in place of its own, its parts on the shelves. An error where memory is refused.
+    /// What is kept of where a run stands, with these views in place of its own, its parts on the shelves, beside the last state that was
+    /// noted. An error where memory is refused.
     fn of(
         alloc: Global,
         shelves: &mut Shelves<D, B>,
+        last: Option<&State<D, B>>,
         execution: &Execution<D>,
         bodies: &[B],
         views: &RankedViews,
@@ -63,6 +65,10 @@ impl<D: Data + Same, B: Body + Same> State<D, B> {
     {
         let scene = execution.scene();
         let threads = scene.threads().as_slice();
+        let before = match last {
+            Some(state) => state.bodies.as_slice(),
+            None => &[],
+        };
         Ok(State {
             threads: shelves.threads(alloc, threads)?,
             objects: shelves.objects(alloc, scene.objects().as_slice(), threads)?,
@@ -71,7 +77,7 @@ impl<D: Data + Same, B: Body + Same> State<D, B> {
             max_threads: scene.max_threads(),
             yields: kept_yields(never_switches, scene.yields()),
             ordered: execution.ordered_threads(),
-            bodies: shelves.bodies(alloc, bodies, threads)?,
+            bodies: shelves.bodies(alloc, bodies, threads, before)?,
         })
     }
 
@@ -397,6 +403,7 @@ impl<D: Data + Same, B: Body + Same> States<D, B> {
         State::of(
             self.alloc,
             &mut self.shelves,
+            self.states.as_slice().last(),
             execution,
             bodies,
             views,

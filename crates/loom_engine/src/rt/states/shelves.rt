@@ -90,37 +90,46 @@ impl<D: Data + Same, B: Body + Same> Shelves<D, B> {
         views.noted(alloc, &mut self.views)
     }
 
-    /// The bodies of these threads, each shared. An error where memory is refused.
+    /// The bodies of these threads, each shared: with those before them first. An error where memory is refused.
     pub(crate) fn bodies(
         &mut self,
         alloc: Global,
         bodies: &[B],
         threads: &[Thread<D>],
+        before: &[Shared<B>],
     ) -> Result<Sequence<Shared<B>>, AllocError>
         ensures { IfOk result (λ shared. shared ≡ bodies.now) }
     {
         let mut shared = Vec::with_capacity(alloc, bodies.len())?;
         let mut rest = threads.iter();
+        let mut left = before.iter();
         for body in bodies {
-            let digest = match rest.next() {
-                Some(thread) => digest_of_thread(thread),
-                None => 0,
-            };
-            shared.push(shared_body(alloc, &mut self.bodies, body, digest)?)?;
+            let (thread, last) = (rest.next(), left.next());
+            shared.push(shared_body(alloc, &mut self.bodies, body, thread, last)?)?;
         }
         Ok(Sequence::from_vec(shared))
     }
 }
 
-/// The body, shared with whom was given the same one with this digest before. An error where memory is refused.
-fn shared_body<B: Body + Same>(
+/// The body of a thread, shared: with the last one, or with whom was given the same one before. An error where memory is refused.
+fn shared_body<D, B: Body + Same>(
     alloc: Global,
     shelf: &mut Shelf<B>,
     body: &B,
-    digest: u64,
+    thread: Option<&Thread<D>>,
+    last: Option<&Shared<B>>,
 ) -> Result<Shared<B>, AllocError>
     ensures { IfOk result (λ shared. shared ≡ body.now) }
 {
+    if let Some(shared) = last {
+        if shared.get().is_same(body) {
+            return shared.try_clone();
+        }
+    }
+    let digest = match thread {
+        Some(thread) => digest_of_thread(thread),
+        None => 0,
+    };
     match shelf.find(body, digest) {
         Some(shared) => shared.try_clone(),
         None => shelf.put(alloc, body.try_clone()?, digest),
