@@ -313,6 +313,8 @@ fn open<D: Drop>(
 }
 
 /// An access goes on by the slot that was chosen, in which a store is kept.
+// Inlined, so that its answer isn't moved.
+#[inline(always)]
 pub fn read<D: Drop>(
     scene: &mut Scene<D>,
     access: AtomicOp,
