@@ -158,6 +158,8 @@ impl<D: Data> Execution<D> {
     }
 
     /// A run once more, in which main is about to hand over its first operation. What the last one needed room for is used again.
+    // Inlined: each run begins with it.
+    #[inline(always)]
     pub fn restart(&mut self, limits: Limits) -> Result<(), AllocError>
         requires some { 1 ≤ limits.max_threads }
         requires few { limits.max_threads ≤ 5 }
