@@ -365,6 +365,29 @@ lane_chosen word (suc (suc (suc (suc (suc (suc zero)))))) v l = refl
 lane_chosen word (suc (suc (suc (suc (suc (suc (suc zero))))))) v l = refl
 lane_chosen word (suc (suc (suc (suc (suc (suc (suc (suc i)))))))) v l = absurd (omega arith)
 
+-- ---- a lane that is raised
+
+kept_sum : (x : ℕ) → x < 2 ^ 16 → (x + 0) % 2 ^ 16 ≡ x
+kept_sum x h = omega arith
+
+kept_lane : (word t : ℕ) → (lane word t + 0) % 2 ^ 16 ≡ lane word t
+kept_lane word t = kept_sum (lane word t) (lane-fits word t).fits
+
+raised_sum : (x : ℕ) → x < 65535 → (x + 1) % 2 ^ 16 ≡ x + 1
+raised_sum x h = omega arith
+
+pub lane_raised : (word i : ℕ) → i < 8 → lane word i < 65535
+    → zip2 (λ a b. (a + b) % 2 ^ 16) (lanes_in word) (sel_l (zip2 eqb (0 ∷ 1 ∷ 2 ∷ 3 ∷ 4 ∷ 5 ∷ 6 ∷ 7 ∷ []) (replicate 8 i)) (replicate 8 1) (replicate 8 0)) ≡ set (lanes_in word) i (lane word i + 1)
+lane_raised word zero l h = let s = kept_lane word in λ j. raised_sum (lane word 0) h j ∷ s 1 j ∷ s 2 j ∷ s 3 j ∷ s 4 j ∷ s 5 j ∷ s 6 j ∷ s 7 j ∷ []
+lane_raised word (suc zero) l h = let s = kept_lane word in λ j. s 0 j ∷ raised_sum (lane word 1) h j ∷ s 2 j ∷ s 3 j ∷ s 4 j ∷ s 5 j ∷ s 6 j ∷ s 7 j ∷ []
+lane_raised word (suc (suc zero)) l h = let s = kept_lane word in λ j. s 0 j ∷ s 1 j ∷ raised_sum (lane word 2) h j ∷ s 3 j ∷ s 4 j ∷ s 5 j ∷ s 6 j ∷ s 7 j ∷ []
+lane_raised word (suc (suc (suc zero))) l h = let s = kept_lane word in λ j. s 0 j ∷ s 1 j ∷ s 2 j ∷ raised_sum (lane word 3) h j ∷ s 4 j ∷ s 5 j ∷ s 6 j ∷ s 7 j ∷ []
+lane_raised word (suc (suc (suc (suc zero)))) l h = let s = kept_lane word in λ j. s 0 j ∷ s 1 j ∷ s 2 j ∷ s 3 j ∷ raised_sum (lane word 4) h j ∷ s 5 j ∷ s 6 j ∷ s 7 j ∷ []
+lane_raised word (suc (suc (suc (suc (suc zero))))) l h = let s = kept_lane word in λ j. s 0 j ∷ s 1 j ∷ s 2 j ∷ s 3 j ∷ s 4 j ∷ raised_sum (lane word 5) h j ∷ s 6 j ∷ s 7 j ∷ []
+lane_raised word (suc (suc (suc (suc (suc (suc zero)))))) l h = let s = kept_lane word in λ j. s 0 j ∷ s 1 j ∷ s 2 j ∷ s 3 j ∷ s 4 j ∷ s 5 j ∷ raised_sum (lane word 6) h j ∷ s 7 j ∷ []
+lane_raised word (suc (suc (suc (suc (suc (suc (suc zero))))))) l h = let s = kept_lane word in λ j. s 0 j ∷ s 1 j ∷ s 2 j ∷ s 3 j ∷ s 4 j ∷ s 5 j ∷ s 6 j ∷ raised_sum (lane word 7) h j ∷ []
+lane_raised word (suc (suc (suc (suc (suc (suc (suc (suc i)))))))) l h = absurd (omega arith)
+
 -- words with other lanes have other counts
 other_words : (a b : ℕ) → a < 2 ^ 80 → b < 2 ^ 80 → a ≢ b → versions_eq (counts_in a) (counts_in b) ≡ false
 other_words a b h k o = false_from_ne_true (versions_eq (counts_in a) (counts_in b)) (λ e.

@@ -94,9 +94,8 @@ impl VersionVec {
         ensures unchanged { OnFalse result (self.new ≡ self.old) }
         ensures counted { slice_index self.old thread ≤ highest_version }
     {
-        let version = lanes::get(self.word, thread);
-        if version < MAX_VERSION {
-            self.word = lanes::set(self.word, thread, version + 1);
+        if lanes::get(self.word, thread) < MAX_VERSION {
+            self.word = lanes::raised(self.word, thread);
             true
         } else {
             false

@@ -1,7 +1,7 @@
 //! A word of 128 bits as eight lanes of 16 bits, of which a version vector gives one to each thread (own). Only this file knows
 //! which bits a lane is.
 
-ghost use Rattle.std.specs.Prelude.{◌≡◌, ◌≢◌, ◌↔◌, ◌∷◌, [], ℕ, ◌<◌, ◌≤◌, IsTrue, MatchOption, max, if◌then◌else◌};
+ghost use Rattle.std.specs.Prelude.{◌≡◌, ◌≢◌, ◌↔◌, ◌∷◌, [], ℕ, ◌+◌, ◌<◌, ◌≤◌, IsTrue, MatchOption, max, if◌then◌else◌};
 ghost use Rattle.loom_views.specs.Lanes.{lane, lanes_in, word_of, AreLarger, IsFirstLarger};
 
 use std::simd::{u16x8, u64x2};
@@ -24,6 +24,19 @@ pub fn set(word: u128, thread: usize, count: u16) -> u128
     let places = u16x8::from_array([0, 1, 2, 3, 4, 5, 6, 7]);
     let is_there = places.simd_eq(u16x8::splat(thread as u16));
     word_of(is_there.select(u16x8::splat(count), lanes(word)))
+}
+
+/// The word with one more in a lane whose number is below 65,535. Nothing else in it has changed (own).
+pub fn raised(word: u128, thread: usize) -> u128
+    requires within { thread < 8 }
+    requires below { lane word thread < 65535 }
+    ensures raised { lane result thread ≡ lane word thread + 1 }
+    ensures others { (t : ℕ) → t ≢ thread → lane result t ≡ lane word t }
+{
+    // Added lane by lane: the other lanes have nothing added.
+    let places = u16x8::from_array([0, 1, 2, 3, 4, 5, 6, 7]);
+    let is_there = places.simd_eq(u16x8::splat(thread as u16));
+    word_of(lanes(word) + is_there.select(u16x8::splat(1), u16x8::splat(0)))
 }
 
 /// The word with these numbers in the lanes of the threads, and zero in the others (own).
