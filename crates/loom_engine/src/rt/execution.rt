@@ -137,6 +137,17 @@ impl<D: Data + Same> Execution<D> {
             over: self.over,
         })
     }
+
+    /// It becomes a copy of another one, in the room that it has. An error where memory is refused (own).
+    pub fn copy_from(&mut self, other: &Execution<D>) -> Result<(), AllocError>
+        ensures { IfOk result (λ _. self.new ≡ other.now) }
+    {
+        self.run.state.scene.copy_from(&other.run.state.scene)?;
+        self.run.dependence.copy_from(&other.run.dependence)?;
+        self.run.state.steps_left = other.run.state.steps_left;
+        self.over = other.over;
+        Ok(())
+    }
 }
 
 impl<D: Data> Execution<D> {

@@ -1,5 +1,5 @@
 //! Runs that are kept where they stood at branch points, so that later ones whose paths begin as theirs did go on from there (own).
-ghost use Rattle.std.specs.Prelude.{ℕ, ◌≡◌, ◌<◌, ◌⊎◌, [], All, IfOk, take};
+ghost use Rattle.std.specs.Prelude.{ℕ, ◌≡◌, ◌<◌, ◌≤◌, ◌⊎◌, [], All, IfOk, length, take};
 ghost use Rattle.loom_engine.specs.Path.Route.{IsSameSearch};
 ghost use Rattle.loom_engine.specs.Snapshots.{Fits, GoesOn, GoesOnWithOne, IsKeptOf, KeepsOne};
 
@@ -13,6 +13,7 @@ use loom_views::same::Same;
 use loom_views::sequence::Sequence;
 use std::alloc::{AllocError, Global};
 use std::marker::Model;
+use std::mem;
 
 /// What is kept of a run that stood at a branch point, before its schedule (own).
 #[derive(Drop)]
@@ -34,6 +35,26 @@ impl<D: Data + Same, B: Body> Snapshot<D, B> {
         })
     }
 
+    /// It becomes what is kept of where a run stands, in the room that it has. An error where memory is refused.
+    fn copy_from(
+        &mut self,
+        execution: &Execution<D>,
+        bodies: &[B],
+        path: &Path,
+    ) -> Result<(), AllocError>
+        ensures { IfOk result (λ _. IsKeptOf execution.now bodies.now path.now self.new) }
+    {
+        self.execution.copy_from(execution)?;
+        let none = Sequence::new(execution.scene().alloc());
+        let mut list = mem::replace(&mut self.bodies, none).into_vec();
+        restart_all(&mut list, bodies)?;
+        let copy = Sequence::from_vec(list);
+        let standing = path.standing();
+        self.bodies = copy;
+        self.standing = standing;
+        Ok(())
+    }
+
     /// A run goes on from here, along a path that begins as that one's did. An error where memory is refused.
     fn go_on(
         &self,
@@ -45,15 +66,19 @@ impl<D: Data + Same, B: Body> Snapshot<D, B> {
         ensures goes { IfOk result (λ _. GoesOn self.now path.old execution.new bodies.new.items path.new) }
         ensures same { IsSameSearch path.old path.new }
     {
-        let alloc = execution.scene().alloc();
-        *bodies = copied_bodies(alloc, self.bodies.as_slice())?.into_vec();
-        *execution = self.execution.try_clone()?;
+        restart_all(bodies, self.bodies.as_slice())?;
+        execution.copy_from(&self.execution)?;
         path.stand(&self.standing);
         Ok(())
     }
 
-    /// The run itself goes on, along a path that begins as its own did.
-    fn move_into(self, execution: &mut Execution<D>, bodies: &mut Vec<B>, path: &mut Path)
+    /// The run itself goes on, along a path that begins as its own did. What another run has left is left in its place, for its room.
+    fn move_into(
+        self,
+        execution: &mut Execution<D>,
+        bodies: &mut Vec<B>,
+        path: &mut Path,
+    ) -> Snapshot<D, B>
         requires { Fits path.old self }
         ensures goes { GoesOn self path.old execution.new bodies.new.items path.new }
         ensures same { IsSameSearch path.old path.new }
@@ -64,8 +89,11 @@ impl<D: Data + Same, B: Body> Snapshot<D, B> {
             standing,
         } = self;
         path.stand(&standing);
-        *bodies = threads.into_vec();
-        *execution = run;
+        Snapshot {
+            execution: mem::replace(execution, run),
+            bodies: Sequence::from_vec(mem::replace(bodies, threads.into_vec())),
+            standing,
+        }
     }
 }
 
@@ -77,6 +105,8 @@ pub const MOST_SNAPSHOTS: usize = 100;
 #[derive(Drop)]
 pub struct Snapshots<D, B> {
     list: Vec<Snapshot<D, B>>,
+    // what is gone on with no more, for its room
+    spare: Vec<Snapshot<D, B>>,
     most: usize,
 }
 
@@ -96,6 +126,7 @@ impl<D: Drop, B: Drop> Snapshots<D, B> {
     {
         Snapshots {
             list: Vec::new(alloc),
+            spare: Vec::new(alloc),
             most: 0,
         }
     }
@@ -117,6 +148,7 @@ impl<D: Drop, B: Drop> Snapshots<D, B> {
         ensures { self.new ≡ [] }
     {
         self.list.clear();
+        self.spare.clear();
     }
 
     /// Those are left that stand before this place of their path, up to the first that doesn't.
@@ -139,7 +171,7 @@ impl<D: Data + Same, B: Body> Snapshots<D, B> {
     ) -> Result<(), AllocError>
         ensures { IfOk result (λ _. KeepsOne execution.now bodies.now path.now self.old self.new) }
     {
-        let snapshot = Snapshot::of(execution, bodies, path)?;
+        let snapshot = snapshot_of(&mut self.spare, execution, bodies, path)?;
         make_room(&mut self.list, self.most);
         self.list.push(snapshot)?;
         Ok(())
@@ -208,7 +240,8 @@ impl<D: Data + Same, B: Body> Snapshots<D, B> {
         let Some(last) = self.list.pop() else {
             return false;
         };
-        last.move_into(execution, bodies, path);
+        let left = last.move_into(execution, bodies, path);
+        keep_spare(&mut self.spare, left);
         true
     }
 }
@@ -225,6 +258,29 @@ fn count_before<D, B>(list: &[Snapshot<D, B>], place: usize) -> usize
     list.len()
 }
 
+/// A copy of where a run stands, in the room of a spare one. An error where memory is refused.
+fn snapshot_of<D: Data + Same, B: Body>(
+    spare: &mut Vec<Snapshot<D, B>>,
+    execution: &Execution<D>,
+    bodies: &[B],
+    path: &Path,
+) -> Result<Snapshot<D, B>, AllocError>
+    ensures { IfOk result (IsKeptOf execution.now bodies.now path.now) }
+{
+    let Some(mut snapshot) = spare.pop() else {
+        return Snapshot::of(execution, bodies, path);
+    };
+    snapshot.copy_from(execution, bodies, path)?;
+    Ok(snapshot)
+}
+
+/// Keeps one for its room, where there is memory for that.
+fn keep_spare<D: Drop, B: Drop>(spare: &mut Vec<Snapshot<D, B>>, left: Snapshot<D, B>) {
+    match spare.push(left) {
+        Ok(()) | Err(_) => {}
+    }
+}
+
 /// Where as many are kept as may be, none is any more.
 fn make_room<D: Drop, B: Drop>(list: &mut Vec<Snapshot<D, B>>, most: usize)
     ensures { (list.new.items ≡ list.old.items) ⊎ (list.new.items ≡ []) }
@@ -232,4 +288,28 @@ fn make_room<D: Drop, B: Drop>(list: &mut Vec<Snapshot<D, B>>, most: usize)
     if list.len() >= most {
         list.clear();
     }
+}
+
+/// The bodies become copies of others, in the room that they have. An error where memory is refused.
+fn restart_all<B: Body>(bodies: &mut Vec<B>, others: &[B]) -> Result<(), AllocError>
+    ensures { IfOk result (λ _. bodies.new.items ≡ others.now) }
+{
+    bodies.truncate(others.len());
+    let there = bodies.len();
+    restart_first(bodies, others)?;
+    for place in there..others.len() {
+        bodies.push(others[place].try_clone()?)?;
+    }
+    Ok(())
+}
+
+/// Each of the bodies becomes a copy of the other one at its place. An error where memory is refused.
+fn restart_first<B: Body>(bodies: &mut Vec<B>, others: &[B]) -> Result<(), AllocError>
+    requires { length bodies.old.items ≤ length others.now }
+    ensures { IfOk result (λ _. bodies.new.items ≡ take (length bodies.old.items) others.now) }
+{
+    for place in 0..bodies.len() {
+        bodies[place].restart(&others[place])?;
+    }
+    Ok(())
 }

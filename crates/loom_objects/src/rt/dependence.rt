@@ -83,6 +83,14 @@ impl Dependence {
         })
     }
 
+    /// It becomes a copy of another one, in the room that it has. An error where memory is refused (own).
+    pub fn copy_from(&mut self, other: &Dependence) -> Result<(), AllocError>
+        ensures { IfOk result (λ _. self.new ≡ other.now) }
+    {
+        self.threads.copy_from(other.threads.as_slice())?;
+        self.last.copy_from(other.last.as_slice())
+    }
+
     /// Of how many threads there are accesses in order (own).
     pub fn thread_count(&self) -> usize
         ensures { result ≡ length self.now.threads }

@@ -105,6 +105,21 @@ pub fn copied_all<T: Kept>(alloc: Global, values: &[T]) -> Result<Sequence<T>, A
     Ok(Sequence::from_vec(copy))
 }
 
+/// They become copies of values in order, in the room that they have. An error where memory is refused (own).
+pub fn copy_all<T: Kept>(
+    alloc: Global,
+    values: &[T],
+    copy: &mut Sequence<T>,
+) -> Result<(), AllocError>
+    ensures { IfOk result (λ _. copy.new ≡ values.now) }
+{
+    copy.clear();
+    for value in values {
+        copy.push(value.copied(alloc)?)?;
+    }
+    Ok(())
+}
+
 /// Whether values are equal, one after another (own).
 pub fn are_equal<T: Kept>(one: &[T], other: &[T]) -> bool
     ensures { IsTrue result → one.now ≡ other.now }

@@ -20,7 +20,7 @@ ghost use Rattle.loom_views.specs.Views.{Points, ShowsViews, opening as first_po
 
 use crate::data::Data;
 use crate::operation::{Lazy, Reply, Turn};
-use crate::rt::kept::copied_all;
+use crate::rt::kept::{copied_all, copy_all};
 use crate::rt::object::Object;
 use crate::rt::run::{Passed, Resumed};
 use crate::rt::schedule::{Yields, no_yields};
@@ -269,6 +269,21 @@ impl<D: Data + Same> Scene<D> {
             max_threads: self.max_threads,
             alloc: self.alloc,
         })
+    }
+
+    /// It becomes a copy of another one, in the room that it has. An error where memory is refused (own).
+    pub fn copy_from(&mut self, other: &Scene<D>) -> Result<(), AllocError>
+        ensures { IfOk result (λ _. self.new ≡ other.now) }
+    {
+        let threads = copied_all(self.alloc, other.threads.as_slice())?;
+        copy_all(self.alloc, other.objects.as_slice(), &mut self.objects)?;
+        copy_all(self.alloc, other.lazies.as_slice(), &mut self.lazies)?;
+        self.views.copy_from(&other.views)?;
+        self.threads = threads;
+        self.active = other.active;
+        self.yields = other.yields;
+        self.max_threads = other.max_threads;
+        Ok(())
     }
 }
 

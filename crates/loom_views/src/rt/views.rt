@@ -78,6 +78,18 @@ impl Views {
         })
     }
 
+    /// They become a copy of others, in the room that they have. An error where memory is refused (own).
+    pub fn copy_from(&mut self, other: &Views) -> Result<(), AllocError>
+        ensures { IfOk result (λ _. self.new ≡ other.now) }
+    {
+        self.places.copy_from(&other.places)?;
+        self.stamps.copy_from(other.stamps.as_slice())?;
+        self.threads = copied(&other.threads);
+        self.count = other.count;
+        self.global = other.global;
+        Ok(())
+    }
+
     /// Main alone again, and no object. It takes no memory, and the room for objects stays (own).
     pub fn restart(&mut self)
         ensures { ShowsViews opening self.new }

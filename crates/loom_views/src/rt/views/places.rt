@@ -124,6 +124,16 @@ impl Places {
         Ok(())
     }
 
+    /// They become a copy of others, in the room that they have. An error where memory is refused (own).
+    pub fn copy_from(&mut self, other: &Places) -> Result<(), AllocError>
+        ensures { IfOk result (λ _. self.new ≡ other.now) }
+    {
+        self.count = 0;
+        self.items.copy_from(other.as_slice())?;
+        self.count = self.items.len();
+        Ok(())
+    }
+
     /// A copy. An error where memory is refused (own).
     pub fn try_clone(&self, alloc: Global) -> Result<Places, AllocError>
         ensures { IfOk result (λ copy. copy ≡ self.now) }

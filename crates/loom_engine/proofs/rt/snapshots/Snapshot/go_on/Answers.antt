@@ -9,7 +9,7 @@ pub stand-requires-clause-tally : goal.stand-requires-clause-tally
 stand-requires-clause-tally g c = c.requires.1
 
 pub returns-clause-goes : goal.returns-clause-goes
-returns-clause-goes g c = record { same_execution = c.in_ok-execution.ensures; same_bodies = c.into_vec.ensures ∙ c.in_ok-copied_bodies.ensures ∙ c.as_slice.ensures; path = c.stand.ensures }
+returns-clause-goes g c = record { same_execution = c.in_ok-copy_from.ensures; same_bodies = c.in_ok-restart_all.ensures ∙ c.as_slice.ensures; path = c.stand.ensures }
 
 pub returns-clause-same : goal.returns-clause-same
 returns-clause-same g c = (ap (λ (r : Route). r.search) c.stand.ensures, ap (λ (r : Route). r.explores) c.stand.ensures, ap (λ (r : Route). r.given) c.stand.ensures)
