@@ -1,5 +1,5 @@
 //! Draws the choices of a walk's runs (own).
-ghost use Rattle.std.specs.Prelude.{◌≤◌, ◌<◌, ◌+◌};
+ghost use Rattle.std.specs.Prelude.{◌<◌};
 
 use crate::model::walk::Walk;
 use loom_engine::rt::path::drawing::Chooser;
@@ -74,8 +74,9 @@ impl Chooser for Drawer {
             return priorities.thread(&mut self.rng, &offers.abilities);
         }
         let able = Options::able(&offers.abilities);
-        if able.count > 1 {
-            Some(able.at(self.below(able.count)))
+        let count = able.count();
+        if count > 1 {
+            Some(able.at(self.below(count)))
         } else {
             offers.default
         }
@@ -84,8 +85,9 @@ impl Chooser for Drawer {
     #[inline(always)]
     fn slot(&mut self, readable: &[bool; MAX_ATOMIC_HISTORY]) -> u8 {
         let slots = Options::readable(readable);
-        if slots.count > 1 {
-            slots.at(self.below(slots.count))
+        let count = slots.count();
+        if count > 1 {
+            slots.at(self.below(count))
         } else {
             slots.at(0)
         }
@@ -96,57 +98,53 @@ impl Chooser for Drawer {
     }
 }
 
-/// Those among which one is drawn: the threads that can go on, or the slots that may be read. In order, each is a byte of the list,
-/// from the low one on.
+/// Those among which one is drawn: the threads that can go on, or the slots that may be read. How many of them there are up to each
+/// number, that one included.
 #[derive(Clone, Copy)]
 struct Options {
-    list: u64,
-    count: usize,
+    counts: [usize; MAX_ATOMIC_HISTORY],
 }
 
 impl Options {
     /// The threads that can go on.
     #[inline(always)]
-    fn able(abilities: &[Ability; MAX_THREADS]) -> Options
-        ensures { result.count ≤ 5 }
-    {
-        let mut options = Options { list: 0, count: 0 };
-        'able: for thread in 0..MAX_THREADS {
-            options.add(thread, abilities[thread] == Ability::Able);
+    fn able(abilities: &[Ability; MAX_THREADS]) -> Options {
+        let mut counts = [0; MAX_ATOMIC_HISTORY];
+        let mut count = 0usize;
+        'threads: for thread in 0..MAX_ATOMIC_HISTORY {
+            count += usize::from(thread < MAX_THREADS && abilities[thread] == Ability::Able);
+            counts[thread] = count;
         }
-        options
+        Options { counts }
     }
 
     /// The slots that may be read.
     #[inline(always)]
-    fn readable(readable: &[bool; MAX_ATOMIC_HISTORY]) -> Options
-        ensures { result.count ≤ 7 }
-    {
-        let mut options = Options { list: 0, count: 0 };
+    fn readable(readable: &[bool; MAX_ATOMIC_HISTORY]) -> Options {
+        let mut counts = [0; MAX_ATOMIC_HISTORY];
+        let mut count = 0usize;
         'slots: for slot in 0..MAX_ATOMIC_HISTORY {
-            options.add(slot, readable[slot]);
+            count += usize::from(readable[slot]);
+            counts[slot] = count;
         }
-        options
+        Options { counts }
     }
 
-    /// One more, if it is an option.
-    // Without a branch: what can't be foretold would take longer. And an array would be waited for where it is read.
+    /// How many there are.
     #[inline(always)]
-    fn add(&mut self, option: usize, is_option: bool)
-        requires { self.old.count ≤ 7 }
-        ensures { self.new.count ≤ self.old.count + 1 }
-    {
-        let added = if is_option { option as u64 } else { 0 };
-        self.list |= added << (8 * self.count as u32);
-        self.count += usize::from(is_option);
+    fn count(&self) -> usize {
+        self.counts[MAX_ATOMIC_HISTORY - 1]
     }
 
     /// The option at a place.
+    // Each number is looked at: what is drawn can't be foretold, and would be waited for where it is looked up.
     #[inline(always)]
-    fn at(self, place: usize) -> u8
-        requires { place ≤ 7 }
-    {
-        ((self.list >> (8 * place as u32)) % 256) as u8
+    fn at(&self, place: usize) -> u8 {
+        let mut option = 0u8;
+        'numbers: for number in 0..MAX_ATOMIC_HISTORY {
+            option += u8::from(self.counts[number] <= place);
+        }
+        option
     }
 }
 
