@@ -122,6 +122,7 @@ impl State {
 
     /// Reads the store in a slot. Its order takes in those of the other kept stores that are seen, and the thread touches it. Then
     /// each other kept store whose order contained that order before takes it in as it is now.
+    #[inline(always)]
     fn read(&mut self, thread: usize, views: &ThreadViews, slot: usize) -> u64
         requires thread_in { thread < 5 }
         requires slot_in { slot < 7 }
@@ -141,6 +142,8 @@ impl State {
     }
 
     /// Makes a store, whose synchronization starts with the given one.
+    // Inlined, as `read` is, so that no store is moved from one function to the next.
+    #[inline(always)]
     fn push(
         &mut self,
         thread: usize,
