@@ -376,10 +376,24 @@ impl Path {
                 Err(stop) => Err(stop),
             };
         }
+        self.make_thread(*offers)
+    }
+
+    /// Makes a schedule at the end of the path, and passes it. Where it fails the path stays as it was.
+    // Not inlined, so that what passes a stored one is small enough to be inlined; and by a copy, so that the offers needn't be in
+    // memory there.
+    #[inline(never)]
+    fn make_thread(&mut self, offers: Offers) -> Result<Option<u8>, Stop>
+        requires past { length self.old.nodes ≡ self.old.position }
+        requires sound { AreSoundOffers offers.default offers.abilities }
+        ensures says { (places : List (Option ℕ)) → Decides Choice.Thread self.old (which_thread (is_on self.old.exploring) offers places) result self.new }
+        ensures within { IfOk result (λ chosen. IfSome chosen (λ thread. thread < 5)) }
+        ensures same { IsSame self.old self.new }
+    {
         if self.is_full() {
             return Err(failed(FailureKind::TooManyBranches));
         }
-        let Some(schedule) = self.new_schedule(offers) else {
+        let Some(schedule) = self.new_schedule(&offers) else {
             return Err(failed(FailureKind::NotDeterministic));
         };
         match self.push(Node::Schedule(schedule)) {
@@ -413,10 +427,24 @@ impl Path {
             }
             return Ok(());
         }
+        self.make_load(*readable)
+    }
+
+    /// Makes a load's node at the end of the path. Where it fails the path stays as it was.
+    // Not inlined and by a copy, as `make_thread`.
+    #[inline(never)]
+    fn make_load(&mut self, readable: [bool; MAX_ATOMIC_HISTORY]) -> Result<(), Stop>
+        requires past { length self.old.nodes ≡ self.old.position }
+        requires some { Contains readable true }
+        ensures pushes { Pushes self.old (which_store (is_on self.old.exploring) readable) result self.new }
+        ensures readable { IfOk result (λ _. IsAtLoad readable self.new) }
+        ensures same { IsSame self.old self.new × (self.new.position ≡ self.old.position) }
+    {
         if self.is_full() {
             return Err(failed(FailureKind::TooManyBranches));
         }
-        let Some(load) = new_load(exploring, readable, self.given_here()) else {
+        let exploring = self.is_exploring();
+        let Some(load) = new_load(exploring, &readable, self.given_here()) else {
             return Err(failed(FailureKind::NotDeterministic));
         };
         match self.push(Node::Load(load)) {
