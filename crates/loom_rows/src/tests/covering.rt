@@ -26,8 +26,11 @@ use std::alloc::Global;
 use std::process::Abort;
 use std::sync::atomic::Ordering;
 
-// How many runs a whole search may have here.
+// How many runs a whole search may have where it is compared in parts.
 pub(super) const MOST: usize = 1000;
+
+// More runs than the whole search of any row has that comes to an end.
+const MOST_OF_A_ROW: usize = 25_000;
 
 // How many states are remembered. Some of these searches come to more, and then find the same.
 const MOST_REMEMBERED: usize = 64;
@@ -130,7 +133,7 @@ fn is_covered<B: Body<Data = u64> + Same>(alloc: Global, settings: Settings, bod
     let whole = Settings {
         reduce: false,
         preemption_bound: None,
-        max_permutations: Some(MOST),
+        max_permutations: Some(MOST_OF_A_ROW),
         ..settings
     };
     let unlimited = Settings {
