@@ -5,11 +5,11 @@ usage: tools/refused_memory.py [PROGRAM]
 
 PROGRAM is crates/loom_rows/out/loom_rows, which `rt run` makes there. A C compiler, `cc`, is needed for a library that is loaded
 before the C library and refuses one request. Of six rows the program is run once for each request that it makes, up to a run in
-which none was refused. It must print the row's line, or nothing: then its status is 2, with an error on standard error where
-the check was refused memory, and with nothing there where the program itself was. The error is `error 14`, or of a row of closures
-`error 3`, and `error 1` where the start of a thread was refused, which counts as a request. After each of these runs the program is
-run once more, with all the memory that it wants and the file that is there, and must answer as the row does. Prints a line for each
-row, and ends with status 1 at the first answer that is another.
+which none was refused. It must print the row's line, or nothing: then its status is 2, with an error on standard error where the
+check was refused memory, and with nothing or `memory allocation failed` there where the program itself was. The error's first line is
+`error 14`, or of a row of closures `error 3`, and `error 1` where the start of a thread was refused, which counts as a request. After
+each of these runs the program is run once more, with all the memory that it wants and the file that is there, and must answer as the
+row does. Prints a line for each row, and ends with status 1 at the first answer that is another.
 """
 import os
 import subprocess
@@ -69,6 +69,9 @@ int pthread_create(pthread_t *thread, const pthread_attr_t *attributes, void *(*
 BODY = ("error 14",)
 CLOSURES = ("error 3", "error 1")
 
+# What the program answers where it was itself refused memory.
+REFUSED_ITSELF = [(b"", b"", 2), (b"", b"memory allocation failed\n", 2)]
+
 # The row, its line, its status, for a row with a file the line of the call that goes on, and its errors.
 ROWS = [
     ("lock_beside", b"complete 3\n", 0, None, BODY),
@@ -108,10 +111,10 @@ def try_row(program, library, folder, name, line, status, goes_on, errors):
                 os.remove(path)
         found = answer(program, words, {"LD_PRELOAD": library, "REFUSED_CALL": str(call), "REFUSED_MARK": mark})
         was_refused = os.path.exists(mark)
-        error = found[1].decode().rstrip("\n")
+        error = found[1].decode().partition("\n")[0]
         if found == (b"", found[1], 2) and error in errors and was_refused:
             kind = error
-        elif found == (b"", b"", 2) and was_refused:
+        elif found in REFUSED_ITSELF and was_refused:
             kind = "status 2"
         elif found == (line, b"", status):
             kind = "the row's line"
