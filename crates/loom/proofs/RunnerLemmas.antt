@@ -6,6 +6,7 @@ pub mod Failing
 pub mod Finding
 pub mod Following
 pub mod Leading
+pub mod Legs
 pub mod Made
 pub mod Once
 pub mod Paths

@@ -15,6 +15,7 @@ pub mod Handle
 pub mod Histories
 pub mod Kinds
 pub mod Laws
+pub mod Legs
 pub mod Made
 pub mod Next
 pub mod Parallel

@@ -1,5 +1,5 @@
 //! The choices of a run as a text, as `t0 t- l1 s0`: written, and read back. `laws` says that what is written is read back. A
-//! choice's own word, and how one is found in a text, stand in `loom_objects`. A report shows such a text, and whoever reads it gives
+//! choice's own word, and how one is found in a text, are in `loom_objects`. A report shows such a text, and whoever reads it gives
 //! it to a replay.
 ghost use Rattle.std.specs.Prelude.{◌≡◌, ◌≢◌, Some, None, IfOk, IfErr};
 ghost use Rattle.loom.specs.Model.ChoicesRead.{choices_in};

@@ -25,12 +25,12 @@ pub fn resumed_covers<D, S>()
     ensures { GoesOnLaw D S }
 {}
 
-/// A covering search has come to a list of parts from the beginning by no run (own).
+/// A covering search has reached a list of parts from the beginning by no run (own).
 pub fn covering_parts_begin<D, S>()
     ensures { BeginLaw D S }
 {}
 
-/// Where what such a search has noted is forgotten, as where its list is read from a text, it has come to the list still (own).
+/// Where what such a search has noted is forgotten, as where its list is read from a text, it has still reached the list (own).
 pub fn covering_parts_go_on<D, S>()
     ensures { ForgetLaw D S }
 {}

@@ -129,7 +129,7 @@ impl Builder {
     /// A setting out of range is refused before any run, the first one first, and then a text that is no path of this check.
     /// Besides, an error comes only where the store met a fault or a growth was refused, in the check, the body, the visitor or
     /// the store. After an error only visitor, clock, store and log have moved, and the store holds what it held, or a text of a
-    /// path that the check has come to.
+    /// path that the check has reached.
     pub fn check_with<B: Body, V: Visitor<B::Data>, C: Clock, S: CheckpointStore, L: Log>(
         &self,
         alloc: Global,

@@ -48,6 +48,7 @@ pub use loom_ops::answers::mpsc::TryRecvError;
 pub use parallel::apart::Apart;
 pub use parallel::covering::cover_parallel;
 pub use parallel::visitors::Visitors;
+pub use parallel::walking::walk_parallel;
 pub use parallel::{Found, Workers, check_parallel};
 pub use pool::Pool;
 pub use recorded::{check_parallel_recorded, check_part_recorded, check_recorded, cover_recorded};

@@ -1,4 +1,4 @@
-//! Checks of closures: those of the examples and of the guide, and what is told of a check, in a log or behind it.
+//! Checks of closures: those of the examples and of the guide, and what is shown of a check, in a log or behind it.
 
 mod bodies;
 mod explained;

@@ -1,4 +1,4 @@
-//! Tests of checks of closures: those of the examples and of the guide, and what is told of a check, in a log or behind it.
+//! Tests of checks of closures: those of the examples and of the guide, and what is shown of a check, in a log or behind it.
 #![tactic(auto)]
 
 #[cfg(test)]

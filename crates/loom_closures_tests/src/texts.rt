@@ -1,4 +1,4 @@
-//! The text that is told of each closure, in a file of its own.
+//! The text that explains each closure's run, in a file of its own.
 pub mod closures_assertion;
 pub mod closures_deadlock;
 pub mod closures_leak;

@@ -63,6 +63,6 @@ module _ {D : Type 0} where
   abbrev pub Begins : ExecutionState D → Request D ⊤ → Route → Result (Begun D) Stop → ExecutionState D → Route → Type 0
   Begins old op path answer new after = BeginsAt old.over old op path answer new after
 
--- What is begun goes on to what the whole event comes to.
+-- What is begun goes on to the whole event's outcome.
 abbrev pub BeginningLaw : Type 0 → Type 0
 BeginningLaw D = (op : Request D ⊤) (c : Course D) → submit op c ≡ begins_at op c >>= goes_further

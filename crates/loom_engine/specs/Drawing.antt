@@ -30,7 +30,7 @@ module _ {D : Type 0} where
   LeadsOn (Ok passed.AtBranch) new given = Begins (chosen new) given
   LeadsOn (Err stop) new given = given ≡ chosen new
 
-  -- what the code came to by choices that were drawn is what the rule's tree comes to along the path that was given them
+  -- what the code did by choices that were drawn is what the rule's tree does along the path that was given them
   abbrev pub AlongDrawn : {A : Type 0} → (Result A Stop → Route → List Choice → Type 0) → (Course D → Tree (A × Course D)) → Progress D → Route → Result A Stop → Progress D → Route → Type 0
   AlongDrawn leads rule old path result new after = (given : List Choice) → leads result after given → Along rule old (led_by given path) result new (led_by given after)
 

@@ -56,13 +56,13 @@ pub record ShowsCourse {D : Type 0} (c : Course D) (run : Progress D) (path : Ro
   pub exploring : c.exploring ≡ path.exploring
 
 module _ {D : Type 0} where
-  -- The tree comes to this along the path, memory aside. If it doesn't fail, the run shows where the tree leads.
+  -- This is the tree's outcome along the path, memory aside. If it doesn't fail, the run shows where the tree leads.
   abbrev pub Comes : {A : Type 0} → Tree (A × Course D) → Route → Result A Stop → Progress D → Route → Type 0
   Comes tree old (Ok a) run new = (c : Course D) × ShowsCourse c run new × (drives tree old ≡ (Ok (a, c), trail new))
   Comes tree old (Err (Failure failure)) run new = drives tree old ≡ (Err failure.kind, trail new)
   Comes tree old (Err Memory) run new = Unit {0}
 
-  -- what the code came to along the path is what the tree comes to that the rule says of each course that was shown before it
+  -- what the code did along the path is what the tree does that the rule says of each course that was shown before it
   abbrev pub Along : {A : Type 0} → (Course D → Tree (A × Course D)) → Progress D → Route → Result A Stop → Progress D → Route → Type 0
   Along rule old path result new after = (c : Course D) → ShowsCourse c old path → Comes (rule c) path result new after
 
@@ -81,7 +81,7 @@ module _ {D : Type 0} where
   abbrev pub takes_turn : ℕ → Course D → Tree (Passed D × Course D)
   takes_turn t c = carried c (resumes (is_on c.exploring) t c.world)
 
-  -- a reader is told of a copy of a lock's data
+  -- a reader gets a copy of a lock's data
   abbrev pub IsCopied : {A : Type 0} → (Turn D → A) → Result (A × Course D) FailureKind → Type 0
   IsCopied by_turn comes = (reader n : ℕ) × (copy : D) × (after : Course D) × (comes ≡ Ok (by_turn (Reply reader (ReadLocked n copy)), after))
 
@@ -89,7 +89,7 @@ module _ {D : Type 0} where
   abbrev pub IsMarked : Progress D → Route → Route → Type 0
   IsMarked run path after = (c : Course D) → ShowsCourse c run path → Backtracks path (unordered_in c) after
 
-  -- memory is needed on the way through the tree along the path: a node is made, or it comes to a copy
+  -- memory is needed on the way through the tree along the path: a node is made, or it gives a copy
   abbrev pub NeedsMemory : {A : Type 0} → (Turn D → A) → Tree (A × Course D) → Route → Type 0
   NeedsMemory by_turn tree path = Grows path (drives tree path).1 ⊎ IsCopied by_turn (drives tree path).0
 

@@ -1,4 +1,4 @@
--- Runs that are kept where they stood at branch points, and one of them that is gone on with.
+-- Runs that are kept at branch points, and one of them that is gone on with.
 use Rattle.std.specs.Prelude.{ℕ, ◌≡◌, ◌≤◌, ◌⊎◌, Bool, true, false, List, [], ◌∷◌, ◌++◌, length, slice_get, Some}
 use Rattle.loom_engine.specs.declared.rt.snapshots.Snapshot.{Snapshot}
 use Rattle.loom_engine.specs.Execution.{ExecutionState}
@@ -6,7 +6,7 @@ use Rattle.loom_engine.specs.Path.Route.{Route}
 use Rattle.loom_engine.specs.Path.Tallies.{IsTally}
 
 module _ {D S : Type 0} where
-  -- it is kept of the run that stands there along its path, with its threads' bodies
+  -- it is kept of the run that is there along its path, with its threads' bodies
   pub record IsKeptOf (execution : ExecutionState D) (bodies : List S) (path : Route) (kept : Snapshot D S) : Type 0 where
     pub same_execution : kept.execution ≡ execution
     pub same_bodies : kept.bodies ≡ bodies

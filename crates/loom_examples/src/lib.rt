@@ -1,5 +1,5 @@
-//! Bodies with a name: scripts, the tables of rows that the program, the tests and the documents use, and the bodies and closures
-//! of the guide.
+//! Bodies with a name: scripts, the tables of rows that the program, the tests and the documents use, litmus tests, and the bodies and
+//! closures of the guide.
 #![tactic(auto)]
 
 // The label of an operation that makes an object of this name.
@@ -14,6 +14,7 @@ macro_rules! named {
 
 pub mod bodies;
 pub mod closures;
+pub mod litmus;
 pub mod measured;
 pub mod rows;
 pub mod scripts;

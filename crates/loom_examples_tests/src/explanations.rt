@@ -31,7 +31,7 @@ struct Limits {
     steps: usize,
 }
 
-/// A body, the choices that its run follows, and what is told of it.
+/// A body, the choices that its run follows, and the run's explanation.
 struct Row {
     name: &'static str,
     steps: &'static [Step],
@@ -174,7 +174,7 @@ fn builder_of(row: &Row) -> Builder {
     builder
 }
 
-// Puts on the page what is told of the row's run that follows its choices.
+// Puts on the page the explanation of the row's run that follows its choices.
 fn put_told(rt: &(impl Abort + AllocGlobal), row: &'static Row, page: &mut Page) {
     let body = script(rt, row.steps);
     let choices = Choices::parse(rt.alloc(), row.choices).expect(rt, "no choices");

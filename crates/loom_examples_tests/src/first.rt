@@ -32,7 +32,7 @@ fn increment<R: Wait>(handle: &mut Handle<(), R>, num: &AtomicU64) -> Result<(),
     handle.store(num, current.wrapping_add(1), Release)
 }
 
-/// The same with one operation in place of the two, so that nothing comes between.
+/// Each thread adds by one operation in place of two, so that nothing comes between.
 #[test]
 fn concurrent_inc(rt: HostRuntime) -> Result<(), Fail> {
     let main = |handle: &mut Handle<(), HostRuntime>| {

@@ -45,7 +45,7 @@ fn a_stub_fails_at_once(rt: HostRuntime) -> Result<(), test::Fail> {
     Ok(())
 }
 
-/// The run of some choices is told.
+/// The run of some choices is explained.
 #[test]
 fn a_run_is_told(rt: HostRuntime) -> Result<(), test::Fail> {
     let choices = Choices::parse(rt.alloc(), "t1 t1 t1 t0")?;

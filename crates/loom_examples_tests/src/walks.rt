@@ -1,5 +1,6 @@
 //! Walks, and shorter failures.
 mod closures;
+mod workers;
 
 use crate::asserting::holds;
 use loom::model::visitor::Visitor;

@@ -11,7 +11,7 @@ assoc : (one other more : List ℕ) → (one ++ other) ++ more ≡ one ++ (other
 assoc [] other more = refl
 assoc (x ∷ one) other more = ap (λ l. x ∷ l) (assoc one other more)
 
--- what stands behind the mark goes on
+-- what is behind the mark goes on
 behind : (before mark after more : List ℕ) → (before ++ (mark ++ after)) ++ more ≡ before ++ (mark ++ (after ++ more))
 behind before mark after more = assoc before (mark ++ after) more ∙ ap (λ l. before ++ l) (assoc mark after more)
 

@@ -71,7 +71,7 @@ pub enum Row {
     Told(Shown),
     /// What came of an event's operation, where that isn't told beside it.
     Came(Shown),
-    /// So many events in a row that aren't told.
+    /// So many events in a row that aren't shown.
     Folded(usize),
 }
 
@@ -108,8 +108,11 @@ pub enum Mark {
 /// From what comes first to what comes of it.
 #[derive(Clone, Copy, Debug)]
 pub struct Arrow {
+    /// What it says.
     pub tie: Tie,
+    /// Where it begins.
     pub from: Spot,
+    /// Where it ends.
     pub to: Spot,
 }
 

@@ -1,5 +1,5 @@
 //! The program: it reads litmus tests in herd's C from the files that its words name, makes their runs, and prints what herd7 would.
-//! All that it does stands in `loom_text`.
+//! All that it does is in `loom_text`.
 #![tactic(auto)]
 
 #[cfg(test)]

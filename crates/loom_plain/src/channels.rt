@@ -81,7 +81,7 @@ impl Machine {
         Some(Reply::Done)
     }
 
-    // The active thread drops the receiver: it comes to take the next message, or where none is left it has what it has taken,
+    // The active thread drops the receiver: it is to take the next message, or where none is left it has what it has taken,
     // and the receiver is gone.
     fn drains(&mut self, number: usize) -> NextReply {
         let channel = self.receiver_of(number);

@@ -79,7 +79,7 @@ impl Machine {
         }
     }
 
-    /// The active thread comes to take the lock. A call that waits is blocked while the lock refuses it.
+    /// The active thread is to take the lock. A call that waits is blocked while the lock refuses it.
     pub fn claim_begins(&mut self, number: usize, kind: Kind, claim: Claim) -> NextReply {
         let is_refused = self.object(number, kind).is_open(!claim.is_read());
         let is_blocked = is_refused && !claim.is_try();

@@ -152,7 +152,7 @@ impl Machine {
         self.thread(number).present = self.point(before, present);
     }
 
-    /// The active thread comes to a branch point, where it is to do this to the object.
+    /// The active thread reaches a branch point, where it is to do this to the object.
     pub fn pends(
         &mut self,
         number: usize,
@@ -172,7 +172,7 @@ impl Machine {
         None
     }
 
-    /// The active thread comes to a branch point in this state, where others depend on nothing that it does to an object.
+    /// The active thread reaches a branch point in this state, where others depend on nothing that it does to an object.
     pub fn steps_back(&mut self, state: State, number: usize, step: Step) -> NextReply {
         let me = self.me();
         me.pending = Pending {
@@ -184,7 +184,7 @@ impl Machine {
         None
     }
 
-    /// Each other thread that is about to do this to the object, or whatever is done to it, comes to this state.
+    /// Each other thread that is about to do this to the object, or whatever is done to it, gets this state.
     pub fn set_pending(&mut self, number: usize, action: Option<Action>, state: State) {
         for other in 0..MAX_THREADS as u8 {
             let is_other = other != self.active;

@@ -22,7 +22,7 @@ impl Machine {
         }
     }
 
-    /// The active thread comes to wait on the notifier, which may be that of a future with these wakers, unless it wakes without
+    /// The active thread is to wait on the notifier, which may be that of a future with these wakers, unless it wakes without
     /// a notification.
     pub fn wait_begins(&mut self, number: usize, future: Option<usize>) -> NextReply {
         let active = self.active;

@@ -42,7 +42,7 @@ impl Machine {
         number
     }
 
-    /// The active thread comes to a branch point, where it is to do this to the object, which is whole and of this kind.
+    /// The active thread reaches a branch point, where it is to do this to the object, which is whole and of this kind.
     pub fn comes_to(&mut self, number: usize, kind: Kind, action: Action, step: Step) -> NextReply {
         self.object(number, kind);
         self.pends(number, action, step, false)

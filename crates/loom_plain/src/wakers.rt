@@ -128,7 +128,7 @@ impl Machine {
         }
     }
 
-    // The active thread comes to take the waker out, and is blocked while the place is held.
+    // The active thread is to take the waker out, and is blocked while the place is held.
     fn take_begins(&mut self, number: usize, wakes: bool) -> NextReply {
         let is_held = self.object(number, Kind::AtomicWaker).holder.is_some();
         self.pends(number, Action::Other, Step::TakeWaker(wakes), is_held)

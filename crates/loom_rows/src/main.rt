@@ -1,6 +1,6 @@
 //! The program: it prints what a check of a named row finds, a check with rising bounds, one that remembers states, or a run by
 //! given choices, and may keep a checkpoint in a file. The row's name is its first word but for options, and the file the next
-//! one, if there is one. The rows, the words and the printed lines stand in `loom_examples::rows`, and the rows that are closures
+//! one, if there is one. The rows, the words and the printed lines are in `loom_examples::rows`, and the rows that are closures
 //! in `loom_examples::closures`. A row of closures has the settings of the environment where neither the words nor the row name
 //! others, and where its check's parts aren't files. By `--tour` the program takes a first look at a row and at the bodies of
 //! `loom_examples`. By `--measure` it checks bodies again and again, and prints how long that took.
@@ -17,6 +17,7 @@ use loom::model::env::EnvError;
 use loom::runner::Host;
 use loom_examples::closures::rows::{self, ClosureRow, run_row};
 use loom_examples::closures::tasks::run_asked;
+use loom_examples::rows::jobs::walking::walk_row;
 use loom_examples::rows::options::{self, Asked, RowAsked};
 use loom_examples::rows::{jobs, shares, words};
 use std::env;
@@ -93,8 +94,8 @@ fn do_row<R: Host + Files<File = File> + Clock + Env + Log + Sync, O: Write, E: 
         };
         return Ok(Some(status));
     }
-    if asked.walk.is_some() {
-        return Ok(Some(words::run_asked(rt, rt, asked, out, err)?));
+    if let Some(walk) = asked.walk {
+        return Ok(Some(walk_row(rt, rt, walk, asked, out, err)?));
     }
     if let Some(count) = asked.jobs {
         return Ok(Some(jobs::check_row(rt, asked, count, out, err)?));

@@ -41,6 +41,7 @@ mod cells;
 mod channels;
 mod checking;
 mod covering;
+mod covering_litmus;
 mod covering_parts;
 mod each_operation;
 mod exploring;

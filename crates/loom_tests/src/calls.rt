@@ -1,5 +1,5 @@
 //! Each call of the handles once: a function of each module has its calls by their numbers, and tables say in which order they
-//! are made, and what each is to be told.
+//! are made, and what each is to be answered.
 mod answer;
 mod atomics;
 mod cells;

@@ -221,10 +221,10 @@ module _ {A : Type 0} (result : A → List ℕ) where
   all_append t [] more = refl
   all_append t (run ∷ runs) more = all_append (told t (result run)) runs more
 
-  -- those of some runs, and then those of others that stand in front of them
+  -- those of some runs, and then those of others in front of them
   pub all_in_front : (t : Tallied) (runs more : List A) → told_all (told_all t (map result runs)) (map result more) ≡ told_all t (map result (more ++ runs))
   all_in_front t runs more = all_both t (map result runs) (map result more) ∙ sym (all_append t more runs)
 
-  -- the newest stands first
+  -- the newest is first
   pub all_newest : (t : Tallied) (run : A) (runs : List A) → told (told_all t (map result runs)) (result run) ≡ told_all t (map result (run ∷ runs))
   all_newest t run runs = sym (all_later t (result run) (map result runs))

@@ -160,7 +160,7 @@ not_denied stops.Memory locations threads inside depth left k h read = tt
 not_denied (stops.At problem start end) locations threads inside depth left k h read =
     denied locations threads inside depth left k h ∙ ap (λ (o : Option (Formula × Left)). o >>= λ read. Some (Denied read.0, read.1)) read
 
--- what stands in parentheses, and the parenthesis behind it
+-- what is in parentheses, and the parenthesis behind it
 abbrev closed : Option (Formula × Left) → Option (Formula × Left)
 closed read = read >>= λ read. after_sign signs.CloseParenthesis read.1 >>= λ left. Some (read.0, left)
 

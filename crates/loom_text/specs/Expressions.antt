@@ -87,7 +87,7 @@ location_at scope kind left =
     if is_next signs.Ampersand left then None
     else (name_at left >>= λ name. parameter_named scope kind name.0 >>= λ location. Some (location, name.1))
 
--- what a star stands before
+-- what follows a star
 unfoldable pub pointed_at : Known → Left → Option (ℕ × Left)
 pointed_at scope left = if is_next signs.Star left then None else location_at scope location_kinds.Plain left
 
@@ -152,7 +152,7 @@ for_a_load orders.AcqRel = false
 unfoldable pub load_order_at : Bool → Left → Option (Ordering × Left)
 load_order_at explicit left = order_at explicit left >>= λ order. if for_a_load order.0 then Some order else None
 
--- ---- parts of expressions, by how deep they may stand in one another
+-- ---- parts of expressions, by how deep they may be nested
 
 abbrev pub Reads : Type 0
 Reads = Left → Option (Phrase × Left)
@@ -227,7 +227,7 @@ is_type (kinds.Word words.OtherType) = true
 is_type (kinds.Word words.Void) = true
 is_type _ = false
 
--- what stands in parentheses, behind the first
+-- what is in parentheses, behind the first
 unfoldable pub enclosed_with : Option Readers → Reads
 enclosed_with inside left =
     if is_type (next left).0 then None
@@ -249,7 +249,7 @@ primary_from scope inside _ spelling behind left = None
 unfoldable pub primary_with : Known → Option Readers → Reads
 primary_with scope inside left = primary_from scope inside (next left).0 (next left).1 (passed left) left
 
--- a sign, and what it stands before
+-- a sign, and what follows it
 unfoldable pub signed_as : Option Readers → UnaryOperator → Reads
 signed_as inside operator left = inside >>= λ inside. inside.one (passed left) >>= λ operand. Some (Signed operator operand.0, operand.1)
 
@@ -319,12 +319,12 @@ operators_at inside lowest (suc n) read left = by_operator inside (operators_at 
 unfoldable pub many_with : Known → Option Readers → ℕ → Reads
 many_with scope inside lowest left = one_with scope inside left >>= λ first. operators_at inside lowest (MAX_OPERATORS + 1) first.0 first.1
 
--- at this depth, with parts that may stand so deep in it
+-- at this depth, with parts that may be so deep in it
 unfoldable pub readers : Known → ℕ → Readers
 readers scope zero = record { one = one_with scope None; many = many_with scope None }
 readers scope (suc depth) = record { one = one_with scope (Some (readers scope depth)); many = many_with scope (Some (readers scope depth)) }
 
--- what may stand inside
+-- what may be inside
 unfoldable pub inside : Known → ℕ → Option Readers
 inside scope zero = None
 inside scope (suc depth) = Some (readers scope depth)

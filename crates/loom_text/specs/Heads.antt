@@ -91,7 +91,7 @@ placed_as name kind None placed = location_declared name (Some kind) (pos 0) pla
 
 -- ---- the initial state
 
--- a name that may stand in brackets
+-- a name that may be in brackets
 unfoldable pub initial_name_at : Left → Option (List ℕ × Left)
 initial_name_at left =
     if is_next signs.Star left then None

@@ -141,7 +141,7 @@ IsWritablePhrase scope (ComparedPlain strength location plain value success fail
     IsAtomic scope location × (parameter_named scope location_kinds.Plain (name_of scope.locations plain) ≡ Some plain) × IsWritablePhrase scope value × (for_a_load failure ≡ true)
 IsWritablePhrase scope (Tried mutex) = parameter_named scope location_kinds.Mutex (name_of scope.locations mutex) ≡ Some mutex
 
--- how many operators stand between two expressions
+-- how many operators are between two expressions
 abbrev pub operators : Phrase → ℕ
 operators (Constant value) = 0
 operators (OfRegister register) = 0
@@ -156,7 +156,7 @@ operators (ComparedRegister strength location register value success failure) = 
 operators (ComparedPlain strength location plain value success failure) = operators value
 operators (Tried mutex) = 0
 
--- how many signs, right operands, calls and parentheses stand in one another, where it is written so
+-- how many signs, right operands, calls and parentheses are in one another, where it is written so
 abbrev pub phrase_depth : ℕ → Phrase → ℕ
 phrase_depth lowest (Constant value) = 0
 phrase_depth lowest (OfRegister register) = 0

@@ -8,7 +8,7 @@ use Rattle.loom_text.specs.declared.error.ReadError.TheVariants.{Wrong, Memory}
 abbrev pub is_newline : ℕ → Bool
 is_newline byte = byte == 10
 
--- the line of what stands behind these bytes, from 1
+-- the line of what follows these bytes, from 1
 abbrev pub line_behind : List ℕ → ℕ
 line_behind before = count_by is_newline before + 1
 

@@ -119,7 +119,7 @@ comparisons (Denied inner) = comparisons inner
 comparisons (Both left right) = comparisons left + comparisons right
 comparisons (Either left right) = comparisons left + comparisons right
 
--- how many `~` and parentheses stand in one another, where it is written so
+-- how many `~` and parentheses are in one another, where it is written so
 abbrev pub depth : ℕ → Formula → ℕ
 depth lowest (Equals term value) = 0
 depth lowest (Denied inner) = 1 + depth 3 inner

@@ -306,12 +306,12 @@ statement_with inside done standing =
     if begins_declaration (next standing.left).0 then declarations_at done standing
     else (action_with inside standing >>= λ deed. Some (Then done deed.0, deed.1))
 
--- with statements in it that stand so deep in one another
+-- with statements in it that are so deep in one another
 unfoldable pub statement_at : ℕ → Adds
 statement_at zero = statement_with None
 statement_at (suc depth) = statement_with (Some (statement_at depth))
 
--- what may stand inside
+-- what may be inside
 unfoldable pub within : ℕ → Option Adds
 within zero = None
 within (suc depth) = Some (statement_at depth)

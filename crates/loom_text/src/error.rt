@@ -45,7 +45,7 @@ pub struct Place {
 /// What is wrong at a place. Own.
 #[derive(Clone, Copy, Debug, PartialEq, Eq, Error)]
 pub enum Problem {
-    /// Something else has to stand there.
+    /// Something else has to be there.
     #[error("expected {0}")]
     Expected(Wanted),
     /// No word and no sign begins with this character.
@@ -101,7 +101,7 @@ pub enum Problem {
     /// A lock or a condition variable has a value.
     #[error("a lock or a condition variable has no value")]
     NoValue,
-    /// The call stands as a value, and is read only as a statement.
+    /// The call is used as a value, and is read only as a statement.
     #[error("this call is read only as a statement, and has no value here")]
     NotAValue,
     /// C has it, and this machine doesn't, or it isn't read so far.
@@ -124,7 +124,7 @@ pub enum Problem {
     TooLong,
 }
 
-/// What has to stand at a place. Own.
+/// What has to be at a place. Own.
 #[derive(Clone, Copy, Debug, PartialEq, Eq, Error)]
 pub enum Wanted {
     /// A sign.
@@ -133,7 +133,7 @@ pub enum Wanted {
     /// The first line.
     #[error("`C` and a name, as in `C SB`")]
     Head,
-    /// What stands after `C`.
+    /// What comes after `C`.
     #[error("a name, as in `C SB`")]
     TestName,
     /// A part of the initial state.
@@ -259,7 +259,7 @@ fn column_behind(before: &[u8]) -> usize
 }
 
 /// A mistake as a compiler shows it: the file, the place and the problem, the line on which it begins, and marks under the place. A
-/// byte that isn't a printed character of ASCII stands as `?`, and a tab as a space. It fails only where memory is refused.
+/// byte that isn't a printed character of ASCII is shown as `?`, and a tab as a space. It fails only where memory is refused.
 pub fn report(
     alloc: Global,
     file: &str,

@@ -65,7 +65,7 @@ pub struct Thread {
     pub body: Vec<Statement>,
 }
 
-/// A statement, and where it stands. Own.
+/// A statement, and where it is. Own.
 #[derive(Debug, PartialEq, Eq, Drop)]
 #[cycle(statements)]
 pub struct Statement {

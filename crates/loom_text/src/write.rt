@@ -171,7 +171,7 @@ fn write_statement(
     text.push('\n')
 }
 
-// The statements in braces, of which the last stands at this level.
+// The statements in braces, of which the last is at this level.
 #[cycle(write_statements)]
 fn write_block(
     body: &Vec<Statement>,

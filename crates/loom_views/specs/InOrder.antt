@@ -15,7 +15,7 @@ use Rattle.loom_views.specs.Limits.{highest_version}
 abbrev pub IsRising : (ℕ → ℕ → ℕ → Type 0) → Type 0
 IsRising R = (t a b c d : ℕ) → R t a b → R t c d → nat_le a c ≡ nat_le b d
 
--- Each count of the one pairs with the count that stands in its place in the other.
+-- Each count of the one pairs with the count in its place in the other.
 module _ (R : ℕ → ℕ → ℕ → Type 0) where
   abbrev pub PairsVectors : List ℕ → List ℕ → Type 0
   PairsVectors vs ws = (t : ℕ) → t < 5 → R t (slice_index vs t) (slice_index ws t)
@@ -86,7 +86,7 @@ module _ (R : ℕ → ℕ → ℕ → Type 0) where
     pub stamps : PairAll PairsVectors v.stamps w.stamps
     pub global : PairsVectors v.global w.global
 
--- The other one has the counts of the first by their ranks, which stand in the same order.
+-- The other one has the counts of the first by their ranks, which are in the same order.
 pub record IsInOrder (v w : Views) : Type 0 where
   pub rank : ℕ → ℕ → Option ℕ
   pub rising : IsRising (λ t a b. rank t a ≡ Some b)

@@ -9,7 +9,7 @@ use Rattle.loom_views.specs.CellAccesses.{Accesses}
 use Rattle.loom_views.specs.Atomic.History.{StorePoints, History, blank, touch_of}
 use Rattle.loom_views.specs.Views.{Place, Meets, Keeps, Records, Points}
 
--- ---- spots, where points stand
+-- ---- spots, where points are
 
 pub data ThreadSpot : Type 0 where
   Present : ThreadSpot
@@ -49,7 +49,7 @@ abbrev pub owned : ℕ → ℕ → Option ℕ → List ℕ
 owned u t None = []
 owned u t (Some k) = cond (u == t) (k ∷ []) []
 
--- the points that stand at a spot, as far as thread t's versions go
+-- the points at a spot, as far as thread t's versions go
 abbrev pub thread_points : ℕ → ℕ → ThreadSpot → ThreadPoints → List ℕ
 thread_points t u Present own = own.present ∷ []
 thread_points t u Released own = own.released ∷ []

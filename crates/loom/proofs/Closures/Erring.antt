@@ -88,7 +88,7 @@ never_memory = not_tested why.Memory (λ n e. cc e) (λ n e. cc e) (λ n e. cc e
 never_store : (b : Builder) → tested b ≡ Err why.Store → ⊥
 never_store = not_tested why.Store (λ n e. cc e) (λ n e. cc e) (λ n e. cc e) (λ e. cc e) (λ e. cc e)
 
--- a setting out of range is told as it is
+-- a setting out of range is named as it is
 pub settings_so : (b : Builder) (e : CheckError) → tested b ≡ Err e → of_check e ≡ error.Settings e
 settings_so b e out = kept e (λ memory. never_memory b (out ∙ ap Err memory))
 
@@ -113,7 +113,7 @@ settings_on b (Err x) e P is out p = subst P (sym (is ∙ settings_so b e out)) 
 err_same : {A : Type 0} (r : Result A RunnerError) (e x : RunnerError) → r ≡ Err e → r ≡ Err x → e ≡ x
 err_same r e x one two = cc (one, two)
 
--- only a fault of the store is told as one
+-- only a fault of the store is named as one
 store_so : (e : CheckError) → of_check e ≡ error.Settings why.Store → e ≡ why.Store
 store_so e is = go (case_of e)
   where

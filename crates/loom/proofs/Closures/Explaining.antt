@@ -1,4 +1,4 @@
--- What is told of a run of closures, and why nothing is.
+-- The explanation of a run of closures, and why there is none.
 use Rattle.std.proofs.Common.{◌≡◌, ◌∙◌, ◌∷◌, ◌++◌, ap, ap₂, append-nil, append_assoc, length, refl, subst, sym, inl, inr, List, [], Some, Result, Ok, Err, IfOk}
 use Rattle.std.specs.Prelude.{⊤}
 use Rattle.loom_engine.specs.declared.rt.execution.Limits.{Limits}
@@ -63,7 +63,7 @@ told_of b log events end path same is ends (Ok e) t p l = record {
 }
 
 module _ {D F : Type 0} (called : F → Teller D → Result D Stop → F → Teller D → Type 0) (limits : Limits) where
-  -- what the state at the end of a run that was made is told of
+  -- the explanation of the state at the end of a run that was made
   pub told_along : (b : Builder) (f f' : F) (began : Route) (log : Log D) (told : List (Share D)) → WasCalled called f f' told → (r : Result Explanation RunnerError)
       → IfOk r (IsSettledAndTold limits b began told log) → IfOk r (ExplainsAlong called limits b began f)
   told_along b f f' began log told was (Err e) h = tt
@@ -73,7 +73,7 @@ module _ {D F : Type 0} (called : F → Teller D → Result D Stop → F → Tel
     h.1,
   )
 
-  -- why nothing is told of it
+  -- why there is none
   pub untold_along : (f f' : F) (began : Route) (log : Log D) (told : List (Share D)) → WasCalled called f f' told → (e : RunnerError) → IsNotTold limits began log told e
       → IsNoReplayAlong called limits began f e
   untold_along f f' began log told was e (inl host) = inl host

@@ -128,7 +128,7 @@ module _ {D F : Type 0} (called : F → Teller D → Result D Stop → F → Tel
   abbrev first_of : (m : Made D) → HasMade called (limits_of b) false path f m f' → IsOneOf called b f 1 given m
   first_of m made = record { number = 0; few = omega arith; before = f; ran = none; made = first_follows m made }
 
-  -- it came to a result
+  -- it ended with a result
   pub first_ended : (most : ℕ) (end : Option Failing) → end ≡ None → Tries called (limits_of b) false path f end f' last → Shortens called b f given most None
   first_ended most None is (m, made, ends, kept) = (m, first_follows m made, ends.0, ends.1)
   first_ended most (Some failing) is tries = cc is

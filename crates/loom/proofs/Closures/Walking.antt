@@ -12,7 +12,7 @@ use Rattle.loom.specs.declared.model.builder.Builder.{Builder}
 use Rattle.loom.specs.declared.model.walk.Walk.{Walk}
 use Rattle.loom.specs.declared.model.walk.Walked.TheVariants as walked
 use Rattle.loom.specs.Model.Check.{HasLasted}
-use Rattle.loom.specs.Model.Different.{Counted, IsCount, Notes, TellsDifferent}
+use Rattle.loom.specs.Model.Different.{Counted, IsCount, Notes, Tells, TellsDifferent}
 use Rattle.loom.specs.Model.Walking.{asked_runs}
 use Rattle.loom.specs.declared.runner.drawn.DrawnEnd.{DrawnEnd}
 use Rattle.loom.specs.declared.runner.drawn.DrawnEnd.TheVariants.{Ended, Cut, Failed}
@@ -29,7 +29,7 @@ use Rattle.loom.specs.Runner.Made.{Made, MadeBy}
 use Rattle.loom.specs.Runner.Replay.{following}
 use Rattle.loom.specs.Runner.Run.{Checked, WasCalled}
 use Rattle.loom.specs.Runner.Walking.{BreaksOff, HasGone, IsNoDrawnRun, IsNotJudgedDrawn, JudgedDrawn, Walks, WasDrawn, Went, begins, cuts, gives}
-use Rattle.loom.proofs.ModelLemmas.Noting.{Tells, are_different, tells_more, tells_none}
+use Rattle.loom.proofs.ModelLemmas.Noting.{are_different, tells_more, tells_none}
 use Rattle.loom.proofs.RunnerLemmas.Leading.{own_lead}
 use Rattle.loom.proofs.RunnerLemmas.Made.{checked, made_by, made_of}
 

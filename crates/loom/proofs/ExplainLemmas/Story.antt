@@ -1,4 +1,4 @@
--- What a story comes to.
+-- How a story ends.
 use Rattle.std.proofs.Common.{◌≡◌, ℕ, zero, suc, List, [], ◌∷◌, refl, sym, ◌∙◌}
 use Rattle.std.specs.Prelude.{Option, Some, None, Ok, Err, slice_get, slice_set}
 use Rattle.loom_views.specs.declared.rt.failure.FailureKind.TheVariants.{Misuse}
@@ -20,7 +20,7 @@ use Rattle.loom.specs.Model.Run.{Outcome}
 use Rattle.loom.specs.Explain.Story.{StoryLaw, by_body, goes_on, hands_over, story}
 
 module _ {D S : Type 0} (s : Settings) (next : Meaning D S) where
-  -- from here on the story comes to what the tree of runs comes to
+  -- from here on the story ends as the tree of runs does
   Comes : ℕ → Type 0
   Comes left = (bodies : List S) (c : Course D) (path : Trail) (thread : ℕ) (answer : Reply D)
       → (story s next left bodies c path thread answer).comes ≡ drive s (marking s.bound) (play next left bodies c thread answer) path

@@ -153,7 +153,7 @@ module _ {D S : Type 0} (next : Meaning D S) where
 
 -- ---- what the listener hears
 
--- what the story of a run comes to is what the tree of runs comes to along the path
+-- the story of a run has the outcome that the tree of runs has along the path
 pub driven : {D S : Type 0} (s : Settings) (next : Meaning D S) (explores : Bool) (max_threads max_steps : ℕ) (body : S) (path : Route) → s ≡ path.search → (comes : Outcome D) (events : List Event)
     → story_of s next explores max_threads max_steps body (trail path) ≡ record { events = events; comes = comes } → drives (runs next explores max_threads max_steps body) path ≡ comes
 driven {D} s next explores max_threads max_steps body path same comes events e =
@@ -217,7 +217,7 @@ module _ {L : Type 0} (takes_reply : L → Reply ⊤ → L → Type 0) (takes_op
     ended_so bodies run path answer (Ok ending) is z = (z.0, z.1, ends_by z.0 bodies run path answer ending is z.2)
     ended_so bodies run path answer (Err none) is z = tt
 
-  -- the story of a body's run comes to what its tree of runs comes to
+  -- the story of a body's run has the outcome of its tree of runs
   pub heard_along : {D S E : Type 0} (s : Settings) (next : Meaning D S) (explores : Bool) (max_threads max_steps : ℕ) (body : S) (path : Route) (old new : L) (ending : Result (Ending D) E) (after : Route)
       → s ≡ path.search
       → IfOk ending (λ ending. IsHeardAs takes_reply takes_op (story_of s next explores max_threads max_steps body (trail path)) old new ending after)

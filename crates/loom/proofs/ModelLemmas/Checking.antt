@@ -81,11 +81,11 @@ module _ {D : Type 0} (b : Builder) (tree : Tree D) (sound : IsRunTree tree) (sh
     driven path after comes rests e = sym (ap (λ (p : Route). drives tree p) rests) ∙ e
 
     module _ (good : MayBegin (search_of b) (stored start)) where
-      -- where it has come to, a check may begin
+      -- a check may begin where it is
       pub rests_well : (path : Route) (visitor : V) (count : ℕ) → IsWalking path visitor count → MayBegin (search_of b) (stored path.nodes)
       rests_well path visitor count z = may_go_on s tree sound start good shut z.runs (stored path.nodes) z.makes
 
-      -- where it has come to, it is to go on
+      -- from there it is to go on
       pub stops_there : (path : Route) (visitor : V) (count : ℕ) (z : IsWalking path visitor count) → GoesOnByRounds (search_of b) tree start z.runs path.nodes
       stops_there path visitor count z = goes_to s tree sound start good z.runs path.nodes z.makes
 
@@ -130,7 +130,7 @@ module _ {D : Type 0} (b : Builder) (tree : Tree D) (sound : IsRunTree tree) (sh
 
   -- ---- what the store holds
 
-  -- what the store may hold is a path that the check has come to, so many runs ago at most
+  -- what the store may hold is a path that the check has reached, so many runs ago at most
   pub record IsBehind (start : List Node) (holds : Option (List ℕ) → Type 0) (runs : List (List Choice × D)) (most : ℕ) : Type 0 where
     pub text : Option (List ℕ)
     pub held : holds text

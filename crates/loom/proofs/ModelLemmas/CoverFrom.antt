@@ -97,7 +97,7 @@ off_more left p q on left_by steps off x i c rest e = which (one_either x left (
     which (inr (inl same)) = last (step_some q on steps) same
     which (inr (inr j)) = absurd j
 
--- a run comes to none of the choices before a later node of its path that an earlier run made
+-- a run reaches none of the choices before a later node of its path that an earlier run made
 pub off_new : (left : List (List Stored)) (p q : List Stored) → IsLeftBy p q → ((b : List Choice) (n : Stored) → node_at q b ≡ Some n → IsAtRest n) → LieOff left p → (c : List Choice) → HasNode q c → length p ≤ length c
     → (x : List Stored) → IsOneOf x left → Begins c (choices x) → ⊥
 off_new left p q left_by rests off c here long x i (rest, e) = by (off x i c rest e)

@@ -203,7 +203,7 @@ module _ {D S : Type 0} (b : Builder) (next : Meaning D S) (body : S) where
           let y = z.made never all is in
           record { full = z.full never all is; known_so = table_wider never (key never) all (y.left ++ all) known (λ x i. one_behind x y.left all i) is.known_so; noted_so = y.table }
 
-      -- it made one more, of which the visitor was told or wasn't
+      -- it made one more, which the visitor was given or wasn't
       module _ (new : V) (more : Noted D S) (came : Option D) (now given_up : ℕ) (later : List Stored) (is_last : Bool) (some : (value : D) → came ≡ Some value → (now ≡ count + 1) × (given_up ≡ met)) (none : came ≡ None → (now ≡ count) × (given_up ≡ met + 1)) where
         module _ (never : Bool) (all : List (List Stored)) (is : IsGoing b next body known first start never all) (g : HasGone takes visitor new b next body floor (stored path.nodes) never ((z.made never all is).left ++ all) more came is_last later) where
           given_on : (came : Option D) → TakesIt takes visitor new b next body floor (stored path.nodes) (choices g.left) came → GivenBack takes old (with_run (choices g.left) came (z.made never all is).given) new
@@ -277,7 +277,7 @@ module _ {D S : Type 0} (b : Builder) (next : Meaning D S) (body : S) where
           → (never : Bool) (all : List (List Stored)) → IsGoing b next body known first start never all → FailsBy b next body kind made
       way_fails kind made each never all is = each never ((z.made never all is).left ++ all) (goes_on never all is)
 
-      -- what the runs have come to when one more was made, which may have been the last
+      -- how far the runs are when one more was made, which may have been the last
       pub record HasCome (later : Route) (new : V) (now given_up : ℕ) (more : Noted D S) (is_last : Bool) : Type 0 where
         pub made : (never : Bool) (all : List (List Stored)) → IsGoing b next body known first start never all → HaveMade takes old new b next body floor start never all more now given_up is_last (stored later.nodes)
         pub goes : is_last ≡ false → IsUnderWay later new now given_up more

@@ -111,12 +111,12 @@ module _ {V D S : Type 0} (b : Builder) (next : Meaning D S) (body : S) (takes :
   abbrev AreNodes : List (List Stored) → Noted D S → Type 0
   AreNodes left noted = (c : List Choice) → Contains noted.led_by c → (q : List Stored) × IsOneOf q left × HasNode q c
 
-  -- none of these runs comes to where a state was noted
+  -- none of these runs reaches where a state was noted
   abbrev AreApart : List (List Stored) → Noted D S → Type 0
   AreApart left noted = (c : List Choice) → Contains noted.led_by c → (x : List Stored) → IsOneOf x left → Begins c (choices x) → ⊥
 
   module _ (start : List Node) where
-    -- The rounds so far with those of the checks before, which came to the path with which this one began. The states of all are told apart
+    -- The rounds so far with those of the checks before, which reached the path with which this one began. The states of all are told apart
     -- as they are where one of them knows that the body never switches, if one does.
     pub record Since (before : List (List Choice × D)) (came : HaveComeTo b next body start before) (never : Bool) (left : List (List Stored)) (given : List (List Choice × D)) (nodes : List Stored) (noted : Noted D S) (ways : Tracks) : Type 0 where
       pub table : List (Key D S)
@@ -355,7 +355,7 @@ module _ {V D S : Type 0} (b : Builder) (next : Meaning D S) (body : S) (takes :
           all_leads =
               leads_all (world_of tree) (key (either_knows before came)) (stored path.nodes) (stored after.nodes) z.left z.given (with_run (chosen after) ending []) noted.led_by more.led_by ways grown w.passed left_by rests_so left_so.0.grows left_so.0.later.there left_so.0.later.ordered to comes whole
 
-          -- no earlier run comes to where a state was noted
+          -- no earlier run reaches where a state was noted
           all_apart : AreApart came.left more
           all_apart c has x i begins = by has (less_or_not has.0 (length noted.led_by))
             where
@@ -415,7 +415,7 @@ module _ {V D S : Type 0} (b : Builder) (next : Meaning D S) (body : S) (takes :
                   steps_too c on value (lost, at, none_reaches) called came_so;
             }
 
-            -- what is told
+            -- what is claimed
             claims_so : (holds : Option (List ℕ) → Type 0) (covered : Covered) (now : ℕ) → IsToldBy grown.ways more.led_by now covered → ClaimsTogether b next body holds before now_given covered
             claims_so holds (Complete count met states) now (same, reach) = covering_ends
             claims_so holds (Livelock count met states list) now (same, lost, first, at) = (covering_ends, lost_never lost list.items at first.1)

@@ -54,7 +54,7 @@ module _ {D S : Type 0} (next : Meaning D S) (room : ℕ) (explores : Bool) (max
   pub kept_later : (nodes later : List Node) (list : List (Snapshot D S)) → BeginsWith (stored nodes) (stored later) → AreKept next room explores max_threads max_steps body nodes list → AreKept next room explores max_threads max_steps body later list
   kept_later nodes later list b h k d l = let z = h k d l in (z.0, begins_on z.0 (stored nodes) (stored later) z.1 b, z.2)
 
-  -- those that stand before the last node
+  -- those that are before the last node
   pub left_kept : (nodes : List Node) (list more : List (Snapshot D S)) (count : ℕ) → more ≡ take count list → All (λ (kept : Snapshot D S). kept.standing.position < length nodes) more
       → AreLeft next room explores max_threads max_steps body nodes list → AreKept next room explores max_threads max_steps body nodes more
   left_kept nodes list more count is before h k d l =
@@ -116,7 +116,7 @@ module _ {D S : Type 0} (next : Meaning D S) (room : ℕ) (explores : Bool) (max
     pub within_there : kept.standing.position ≤ length (stored path.nodes)
     within_there = let l = begins_long front (stored path.nodes) b in let size = is.passed in omega (arith, l, size)
 
-  -- a run is kept as it stands
+  -- a run is kept as it is
   module _ (execution : ExecutionState D) (bodies : List S) (path : Route) (c : Course D) (shown : ShowsCourse c execution.run path) (same : path.search.reduce ≡ false) (going : execution.over ≡ None)
       (within : path.position ≤ length (stored path.nodes)) (stood : StoodAt room (marking None) next explores max_threads max_steps body (take path.position (stored path.nodes)) (suc c.world.steps_left) bodies c) where
     copied : (kept : Snapshot D S) → IsKeptOf execution bodies path kept → IsKept next room explores max_threads max_steps body path.nodes kept
@@ -173,7 +173,7 @@ module _ {D S : Type 0} (next : Meaning D S) (run : Noting D S) where
         (by_whole next run path (schedule further_branches h.course) (Ok (turn, z.0), trail after) h.whole z.2))
         kept
 
-  -- the run is kept as it stands, or isn't
+  -- the run is kept as it is, or isn't
   pub kept_more : (bodies : List S) (execution : ExecutionState D) (path : Route) (noted : Noted D S) (list more : List (Snapshot D S)) → execution.over ≡ None → IsAtBranch next run bodies execution.run path noted
       → MayKeepOne execution bodies path list more → AreKeptIn next run path.nodes list → AreKeptIn next run path.nodes more
   kept_more bodies execution path noted list more going h may kept =

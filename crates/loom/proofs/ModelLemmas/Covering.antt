@@ -68,7 +68,7 @@ module _ {D S : Type 0} (next : Meaning D S) (run : Noting D S) where
   at_turn (turn.Ended value) bodies v progress path noted shown tables whole e =
       (tables, way.ended_along run.room (marking None) next run.explores run.max_threads run.max_steps run.body run.path run.old noted (trail path) value tables e)
 
-  -- how the whole run came to its end, where it wasn't cut
+  -- how the whole run ended, where it wasn't cut
   abbrev ends : Result (Option D) FailureKind × Trail → Type 0
   ends r = drive (whole_search run.room) (marking None) (cut never [] (runs next run.explores run.max_threads run.max_steps run.body)) (at_start run.path) ≡ r
 
@@ -261,7 +261,7 @@ module _ {D S : Type 0} (next : Meaning D S) (run : Noting D S) where
   ended_so (Ok (turn.Reply thread answer)) ending bodies progress path noted e h = absurd e
   ended_so (Ok (turn.Start thread)) ending bodies progress path noted e h = absurd e
 
-  -- its end, if it has come to one
+  -- its end, if it has one
   pub end_of : {E : Type 0} (result : Result (Turn D) Halt) (ended : Result (Ending D) E) (bodies : List S) (progress : Progress D) (path : Route) (noted : Noted D S) → IfOk ended (IsEndBy result)
       → ComesTo next run result bodies progress path noted → IfOk ended (λ ending. EndsWith next run ending path noted)
   end_of result (Ok ending) bodies progress path noted e h = ended_so result ending bodies progress path noted e h

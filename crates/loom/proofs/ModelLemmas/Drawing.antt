@@ -48,7 +48,7 @@ module _ {D S : Type 0} (next : Meaning D S) (whole : Story D) where
   abbrev pub HasCome : List S → Progress D → Route → ℕ → Reply D → Type 0
   HasCome bodies run path thread answer = (events : List Event) × IsUnderWay next whole events bodies run path thread answer
 
-  -- after some events it comes to this turn
+  -- after some events it reaches this turn
   abbrev pub Turns : Result (Turn D) Stop → List S → Progress D → Route → Type 0
   Turns result bodies run path = (events : List Event) × ComesToTurn next whole result events bodies run path
 
@@ -83,7 +83,7 @@ module _ {D S : Type 0} (next : Meaning D S) (whole : Story D) where
       quietly (Ok ending) h = (h.0, h.2)
       quietly (Err none) h = tt
 
--- the story of a run comes to what its tree comes to
+-- the story of a run ends as its tree does
 pub runs_drawn : {D S E : Type 0} (s : Settings) (next : Meaning D S) (explores : Bool) (max_threads max_steps : ℕ) (body : S) (old new : Route) (ending : Result (Ending D) E) → s ≡ old.search
     → IfOk ending (λ ending. EndsSo (story_of s next explores max_threads max_steps body (trail (led_by (chosen new) old))) ending (led_by (chosen new) new))
     → IfOk ending (λ ending. RunsDrawn (runs next explores max_threads max_steps body) old ending new)

@@ -1,6 +1,6 @@
 -- A count of different runs: what it has where one more is noted, and what it tells of the runs.
 use Rattle.std.proofs.Common.{◌≡◌, ◌≤◌, ◌∙◌, ◌⊎◌, ◌+◌, ℕ, zero, suc, inl, inr, Bool, true, false, cond, List, [], ◌∷◌, length, take, drop, refl, sym, ap, subst, IsTrue, nat_eq, arith}
-use Rattle.std.specs.Prelude.{◌||◌, ◌↔◌, map, slice_get, Some}
+use Rattle.std.specs.Prelude.{◌||◌, map, slice_get, Some}
 use Rattle.std.specs.List.{AllByRecursion, IsDistinct, list_any}
 use Rattle.std.specs.HashSet as bag
 use Rattle.std.specs.HashSet.{HashSet}
@@ -11,7 +11,7 @@ use Rattle.loom_objects.specs.declared.choice.Choice.{Choice}
 use Rattle.loom_engine.specs.Path.Route.{Route, chosen, stored}
 use Rattle.loom_engine.specs.Walk.Lists.{Each, IsOnce, Member}
 use Rattle.loom_engine.specs.Walk.Path.{Stored, choices}
-use Rattle.loom.specs.Model.Different.{AllDifferentLaw, AreDifferent, Counted, Has, HasHash, IsCount, Notes, hash_from, hash_of, step}
+use Rattle.loom.specs.Model.Different.{Adds, AllDifferentLaw, AreDifferent, Counted, Has, HasHash, IsCount, Notes, Tells, hash_from, hash_of, step}
 
 -- ---- a hash along a path
 
@@ -79,10 +79,6 @@ noted_by old new hash is_left_out updates = record {
 
 -- ---- the runs
 
--- the hashes are those of these lists, unless their number is left out
-abbrev pub Tells : Counted → List (List Choice) → Type 0
-Tells d lists = d.is_left_out ≡ false → (h : ℕ) → Has d.hashes h ↔ HasHash h lists
-
 pub tells_none : (d : Counted) → d.hashes ≡ [] → Tells d []
 tells_none d none told h = (λ has. absurd (cc (subst (λ (hashes : List ℕ). Has hashes h) none has)), λ has. absurd has.1)
 
@@ -110,6 +106,60 @@ later false there is = is
 here_or_later : (b : Bool) (there : Bool) → IsTrue (b || there) → (b ≡ true) ⊎ IsTrue there
 here_or_later true there is = inl refl
 here_or_later false there is = inr is
+
+-- ---- another count's
+
+-- these of the other's hashes are still to be noted
+pub record IsJoining (other old d : Counted) (rest : List ℕ) : Type 0 where
+  pub still : d.is_left_out ≡ false → old.is_left_out ≡ false
+  pub known : d.is_left_out ≡ false → (h : ℕ) → Has d.hashes h → Has other.hashes h ⊎ Has old.hashes h
+  pub among : (h : ℕ) → Has rest h → Has other.hashes h
+  pub kept : d.is_left_out ≡ false → (h : ℕ) → Has old.hashes h → Has d.hashes h
+  pub come : d.is_left_out ≡ false → (h : ℕ) → Has other.hashes h → Has d.hashes h ⊎ Has rest h
+
+pub joining_start : (other old : Counted) → IsJoining other old old other.hashes
+joining_start other old = record { still = λ told. told; known = λ told h has. inr has; among = λ h has. has; kept = λ told h has. has; come = λ told h has. inr has }
+
+-- one more is noted
+pub joining_on : (other old d new : Counted) (hash : ℕ) (rest : List ℕ) → IsJoining other old d (hash ∷ rest) → Notes hash d new → IsJoining other old new rest
+joining_on other old d new hash rest z notes = record {
+  still = λ told. z.still (notes.still told);
+  known = λ told h has. (elim ((notes.noted told h).0 has) [
+    | inl is ↦ inl (z.among h (subst (λ (k : ℕ). Has (hash ∷ rest) k) (sym is) (here hash rest)))
+    | inr had ↦ z.known (notes.still told) h had
+  ]);
+  among = λ h has. z.among h (later (nat_eq h hash) (list_any (nat_eq h) rest) has);
+  kept = λ told h has. (notes.noted told h).1 (inr (z.kept (notes.still told) h has));
+  come = λ told h has. (elim (z.come (notes.still told) h has) [
+    | inl had ↦ inl ((notes.noted told h).1 (inr had))
+    | inr left ↦ (elim (here_or_later (nat_eq h hash) (list_any (nat_eq h) rest) left) [
+      | inl is ↦ inl ((notes.noted told h).1 (inl (exact_unsigned_eq h hash is)))
+      | inr more ↦ inr more
+    ])
+  ]);
+}
+
+-- all are
+pub joining_end : (other old new : Counted) → IsJoining other old new [] → other.is_left_out ≡ false → Adds other old new
+joining_end other old new z whole = record {
+  still = λ told. (z.still told, whole);
+  added = λ told h. (
+    z.known told h,
+    λ has. (elim has [
+      | inl its ↦ (elim (z.come told h its) [
+        | inl is ↦ is
+        | inr none ↦ absurd (cc none)
+      ])
+      | inr was ↦ z.kept told h was
+    ]),
+  );
+}
+
+-- where the number is left out nothing is said
+pub adds_unsaid : (other old new : Counted) → new.is_left_out ≡ true → Adds other old new
+adds_unsaid other old new is = record { still = λ e. absurd (cc (is, e)); added = λ e. absurd (cc (is, e)) }
+
+-- ---- picked
 
 -- a list for each hash
 pub record Picked (hashes : List ℕ) (lists : List (List Choice)) : Type 0 where

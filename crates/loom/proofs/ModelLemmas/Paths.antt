@@ -59,7 +59,7 @@ pub stored_length : (nodes : List Node) → length (stored nodes) ≡ length nod
 stored_length [] = refl
 stored_length (n ∷ nodes) = ap suc (stored_length nodes)
 
--- what stands at a place of a list is as each of the list is
+-- what is at a place of a list is as each of the list is
 there : (P : Stored → Type 0) (p : List Stored) (before : List Choice) (n : Stored) → Each P p → node_at p before ≡ Some n → P n
 unfolding node_at
 there P [] before n all h = absurd (cc h)
@@ -140,7 +140,7 @@ module _ {D : Type 0} (s : Settings) (tree : Tree D) (sound : IsRunTree tree) wh
       rounds = made;
     }
 
-    -- a check may go on where it has come to
+    -- a check may go on where it is
     pub may_go_on : EndsUnchosen tree → (runs : List (List Choice × D)) (last : List Stored) → Makes s (marking s.bound) tree (stored start) runs last → MayBegin s last
     may_go_on shut runs last made =
         let z = stopped runs last made in

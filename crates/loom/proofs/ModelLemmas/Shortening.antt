@@ -17,7 +17,7 @@ use Rattle.loom.specs.Model.Walking.{EndsDrawn}
 use Rattle.loom.proofs.ModelLemmas.Replaying.{replays}
 
 module _ {D : Type 0} where
-  -- the run along a path that is to follow choices comes to what they replay to
+  -- the run along a path that is to follow choices ends as their replay
   pub replay_comes : (explores : Bool) (max_branches : ℕ) (tree : Tree D) (given : List Choice) (path after : Route) (comes : Result D FailureKind) → IsRunTree tree
       → path ≡ record (at_rest (whole_search max_branches) explores []) { given = given } → drives tree path ≡ (comes, trail after) → (replayed max_branches tree given).1 ≡ comes
   replay_comes explores max_branches tree given path after comes sound is e =

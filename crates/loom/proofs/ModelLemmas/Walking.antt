@@ -26,11 +26,11 @@ use Rattle.loom.specs.declared.model.walk.Walk.{Walk}
 use Rattle.loom.specs.declared.model.walk.Walked.{Walked}
 use Rattle.loom.specs.declared.model.walk.Walked.TheVariants as walked
 use Rattle.loom.specs.Model.Check.{HasLasted}
-use Rattle.loom.specs.Model.Different.{Counted, IsCount, Notes, TellsDifferent, hash_of}
+use Rattle.loom.specs.Model.Different.{Counted, IsCount, Notes, Tells, TellsDifferent, hash_of}
 use Rattle.loom.specs.Model.Fresh.{IsReplay}
 use Rattle.loom.specs.Model.Run.{IsLocated}
-use Rattle.loom.specs.Model.Walking.{EndsDrawn, HasGiven, IsDrawnRun, RunsDrawn, TakesRun, Walks, WalksNoEqualOrders, asked_runs, is_cut}
-use Rattle.loom.proofs.ModelLemmas.Noting.{Tells, are_different, tells_more, tells_none}
+use Rattle.loom.specs.Model.Walking.{EndsDrawn, HasGiven, IsDrawnRun, RunsDrawn, TakesRun, Walks, WalksNoEqualOrders, WalksNoting, asked_runs, is_cut}
+use Rattle.loom.proofs.ModelLemmas.Noting.{are_different, tells_more, tells_none}
 use Rattle.loom.proofs.ModelLemmas.Replaying.{replays}
 
 module _ {D : Type 0} where
@@ -119,7 +119,7 @@ module _ {D : Type 0} where
       -- or it failed
       pub taken_failed : (later : V) (noted : Counted) (choices : List Choice) (ending : Ending D) (is : ℕ) (kind : FailureKind) (failing : Vec Choice Global) → EndsDrawn b.max_branches tree choices ending
           → TakesRun takes visitor later d noted choices ending cut is (Told kind failing) → (walk : Walk) (answered : Duration → Type 0) (count : ℕ) (failure : Failure) → count ≡ number - cut → number < asked_runs walk
-          → failure.kind ≡ kind → (b.location ≡ false → failure.location ≡ None) → Walks takes old later b tree walk answered (walked.Failed count is failure failing)
+          → failure.kind ≡ kind → (b.location ≡ false → failure.location ≡ None) → WalksNoting takes old later b tree noted walk answered (walked.Failed count is failure failing)
       taken_failed later noted choices (Ended value) is kind failing drawn took walk answered count failure e more same placed = absurd took
       taken_failed later noted choices (Failed found) is kind failing drawn took walk answered count failure e more same placed =
           let left : z.count ≡ count = omega (arith, z.adds, e) in
@@ -140,18 +140,24 @@ module _ {D : Type 0} where
           let same : z.count ≡ count = omega (arith, z.adds, e) in
           record { runs = z.given.runs; given = z.given.given; counted = z.given.counted ∙ same; drawn = z.given.drawn }
 
-      -- and so many of them differ
-      told_so : (told : Option ℕ) → IfSome told (IsCount d) → TellsDifferent told (choices_made z.given.runs)
-      told_so None is = tt
-      told_so (Some count) is = are_different d (choices_made z.given.runs) count z.tells is
-
       pub walked_all : (walk : Walk) (answered : Duration → Type 0) (count : ℕ) (told : Option ℕ) → count ≡ number - cut → number ≡ asked_runs walk → IfSome told (IsCount d)
-          → Walks takes old visitor b tree walk answered (walked.Made count cut told)
-      walked_all walk answered count told e all is = (given_so count e, told_so told is, inl (omega (arith, z.adds, e, all)))
+          → WalksNoting takes old visitor b tree d walk answered (walked.Made count cut told)
+      walked_all walk answered count told e all is = (given_so count e, z.tells, is, inl (omega (arith, z.adds, e, all)))
 
       pub walked_up : (walk : Walk) (answered : Duration → Type 0) (count : ℕ) (told : Option ℕ) → count ≡ number - cut → number < asked_runs walk → IfSome told (IsCount d) → HasLasted answered b.max_duration
-          → Walks takes old visitor b tree walk answered (walked.Made count cut told)
-      walked_up walk answered count told e more is lasted = (given_so count e, told_so told is, inr (omega (arith, z.adds, e, more), lasted))
+          → WalksNoting takes old visitor b tree d walk answered (walked.Made count cut told)
+      walked_up walk answered count told e more is lasted = (given_so count e, z.tells, is, inr (omega (arith, z.adds, e, more), lasted))
+
+-- so many of the noted runs differ
+pub told_so : (d : Counted) (lists : List (List Choice)) (told : Option ℕ) → Tells d lists → IfSome told (IsCount d) → TellsDifferent told lists
+told_so d lists None tells is = tt
+told_so d lists (Some count) tells is = are_different d lists count tells is
+
+-- what a walk reports besides what is noted
+module _ {V D : Type 0} (takes : V → List Choice → D → V → Type 0) (old new : V) (b : Builder) (tree : Tree D) (d : Counted) (walk : Walk) (answered : Duration → Type 0) where
+  pub walks_so : (report : Walked) → WalksNoting takes old new b tree d walk answered report → Walks takes old new b tree walk answered report
+  walks_so (walked.Made runs cut different) w = (w.0, told_so d (choices_made w.0.runs) different w.1 w.2, w.3)
+  walks_so (walked.Failed runs cut failure choices) w = w
 
 pub at_rest_drawn : (max_branches : ℕ) (old new : Route) → new ≡ at_rest old.search old.explores [] → old.search ≡ whole_search max_branches → IsDrawn new
 at_rest_drawn max_branches old new is same = subst IsDrawn (sym is) (refl, refl, ap (λ (s : Settings). s.reduce) same)

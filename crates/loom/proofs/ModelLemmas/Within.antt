@@ -43,7 +43,7 @@ every_if s passes (Some k) n bound r b e x h =
     go false f = refl
 
 module _ {A : Type 0} where
-  -- a run that comes to something is over
+  -- a run with an outcome is over
   outcome_over : (tree : Tree A) (room : ℕ) (c : List Choice) (o : Result A FailureKind) → outcome room tree c ≡ Some o → met room tree c ≡ None
   outcome_over (Gives value) room c o h = refl
   outcome_over (Fails failure) room c o h = refl
@@ -64,7 +64,7 @@ module _ {A : Type 0} where
     is_machine : IsMachine m
     is_machine = machine_law s adds tree sound fair
 
-    -- a run of options that is over comes to something
+    -- a run of options that is over has an outcome
     comes : (x : List Choice) → IsAllowed m x → m.node x ≡ None → Ends s.max_branches tree x
     comes x h e =
         let z = replay_law s adds tree x sound fair h in

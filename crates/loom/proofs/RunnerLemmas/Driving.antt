@@ -1,4 +1,4 @@
--- The tree of a history: its path drives through it to what the history comes to.
+-- The tree of a history: its path drives through it to the history's outcome.
 use Rattle.std.proofs.Common.{◌≡◌, ◌-◌, suc, List, [], ◌∷◌, length, map, Option, Some, None, refl, ap, sym, ◌∙◌, subst, arith}
 use Rattle.std.specs.Prelude.{slice_get, Result, Ok, Err, ⊤}
 use Rattle.loom_views.specs.declared.rt.failure.FailureKind.{FailureKind}
@@ -62,7 +62,7 @@ module _ {D : Type 0} where
       (λ turned going. turn_unchosen turned.0 turned.1 (handing ops turned.1) (handing_unchosen ops turned.1) going)
       (λ turned over. turn_rests turned.0 turned.1 (handing ops turned.1) over)
 
-  -- ---- what a history comes to
+  -- ---- how a history ends
 
   abbrev pub comes_of : Result (Turn D) Failure → Option (Result D FailureKind)
   comes_of (Ok (turn.Reply k answer)) = None
@@ -70,7 +70,7 @@ module _ {D : Type 0} where
   comes_of (Ok (turn.Ended value)) = Some (Ok value)
   comes_of (Err failure) = Some (Err failure.kind)
 
-  -- its last event comes to this
+  -- its last event ends it so
   abbrev pub EndsBy : List (Event D) → Result D FailureKind → Type 0
   EndsBy [] r = ⊥
   EndsBy (e ∷ []) r = comes_of e.outcome ≡ Some r

@@ -124,7 +124,7 @@ module _ {D : Type 0} where
 
   -- ---- from its start
 
-  -- what it comes to is what the function's runs come to along the path
+  -- it ends as the function's runs do along the path
   runs_there : (does : Function D) (limits : Limits) (path path' : Route) (ending : Ending D) → EndsThere (story_of path.search (by_function does) path.explores limits.max_threads limits.max_steps [] (trail path)) ending path'
       → RunsAlong (runs_by does path.explores limits.max_threads limits.max_steps) path ending path'
   runs_there does limits path path' (Ended value) z = driven path.search (by_function does) path.explores limits.max_threads limits.max_steps [] path refl (Ok value, trail path') z.0 z.1

@@ -55,7 +55,7 @@ started_starting child _ = refl
 -- ---- lists
 
 module _ {A : Type 0} where
-  -- what stands in a list stands in a longer one
+  -- what is in a list is in a longer one
   pub stands : (xs ys : List A) (n : ℕ) (x : A) → slice_get xs n ≡ Some x → slice_get (xs ++ ys) n ≡ Some x
   stands [] ys n x e = cc e
   stands (y ∷ xs) ys zero x e = e
@@ -70,11 +70,11 @@ module _ {A : Type 0} where
       let place : length xs + 1 ≡ length (xs ++ x ∷ []) = omega (arith, length-append xs (x ∷ [])) in
       ap (λ (l : List A). slice_get l (length xs + 1)) (sym (append_assoc xs (x ∷ []) (y ∷ []))) ∙ ap (slice_get ((xs ++ x ∷ []) ++ y ∷ [])) place ∙ stands_last (xs ++ x ∷ []) [] y
 
-  -- what a slice lends stands in the list that it is of
+  -- what a slice lends is in the list that it is of
   pub lent_stands : (xs ys : List A) (n : ℕ) (x : A) → xs ≡ ys → n < length xs → x ≡ get_or xs n x → slice_get ys n ≡ Some x
   lent_stands xs ys n x same within at = ap (λ (l : List A). slice_get l n) (sym same) ∙ slice_get-get_or xs n x within ∙ ap Some (sym at)
 
-  -- what stands in a list that is longer by one stood in it, or is that
+  -- what is in a list that is longer by one was in it, or is that
   pub stood : (xs : List A) (y : A) (n : ℕ) (x : A) → slice_get (xs ++ y ∷ []) n ≡ Some x → (slice_get xs n ≡ Some x) ⊎ (x ≡ y)
   stood [] y zero x e = inr cc
   stood [] y (suc n) x e = absurd (cc e)

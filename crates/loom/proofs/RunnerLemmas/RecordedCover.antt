@@ -134,7 +134,7 @@ module _ {D : Type 0} (does : Function D) (words told : List (Word D)) (thread :
       event (slice_set told thread next_word) (with_child (slice_set told thread next_word) (begun_by asked next_word)) run next_op is_plain more_told h.goes
       (hands_on run progress path noted under)
 
--- its end, if it has come to one
+-- its end, if it has one
 pub known_end_of : {D S E : Type 0} (next : Meaning D S) (run : Noting D S) (result : Result (Turn D) Halt) (known : Result (Option (Ending D)) E) (bodies : List S) (progress : Progress D) (path : Route) (noted : Noted D S)
     → IfOk known (λ k. IfSome k (IsEndBy result)) → ComesTo next run result bodies progress path noted → IfOk known (λ k. IfSome k (λ ending. EndsWith next run ending path noted))
 known_end_of next run result (Ok (Some ending)) bodies progress path noted is came = ended_so next run result ending bodies progress path noted is came

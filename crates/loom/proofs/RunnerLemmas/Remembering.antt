@@ -97,7 +97,7 @@ stops_new told told1 op s live is = go s (is ∙ sym (ap (λ b. cond b (told ++ 
     go Refused e = e
     go Memory e = refl
 
--- what is pushed onto a list that has grown stands behind what was there
+-- what is pushed onto a list that has grown is behind what was there
 pub pushed : {A : Type 0} (old mid new : List A) (x : A) → new ≡ mid ++ x ∷ [] → mid ≡ old → new ≡ old ++ x ∷ []
 pushed {A} old mid new x push same = push ∙ ap (λ (xs : List A). xs ++ x ∷ []) same
 
@@ -105,7 +105,7 @@ pub on_ok : {A E : Type 0} (r : Result A E) (P : Type 0) → P → OnOk r P
 on_ok (Ok x) P p = p
 on_ok (Err e) P p = tt
 
--- ---- what a handle comes to that is closed
+-- ---- what closing a handle leaves
 
 pub same_thread : {D : Type 0} (h0 h h1 : Teller D) → h ≡ h1 → h1.thread ≡ h0.thread → h.thread ≡ h0.thread
 same_thread {D} h0 h h1 is same = ap (λ (t : Teller D). t.thread) is ∙ same

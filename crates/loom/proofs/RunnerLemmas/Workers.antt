@@ -1,4 +1,4 @@
--- A turn of several workers, and what a list of parts has come to by it.
+-- A turn of several workers, and what a list of parts is after it.
 use Rattle.std.proofs.Common.{◌≡◌, ◌⊎◌, ◌<◌, ◌≤◌, ◌+◌, ℕ, zero, suc, inl, inr, true, false, Bool, List, [], ◌∷◌, ◌++◌, map, length, length-append, Some, refl, ap, ap₂, sym, ◌∙◌, subst, arith, append_assoc, append-nil, remove}
 use Rattle.std.specs.Prelude.{Result, Ok, Err, IfOk, slice_get, slice_index_or}
 use Rattle.loom_objects.specs.declared.choice.Choice.{Choice}
@@ -189,7 +189,7 @@ module _ {V D : Type 0} (takes : V → List Choice → D → V → Type 0) (is_n
     pub based : lost.part.base.items ≡ part.base.items
     pub failed : IsResting (machine (search_of b) tree) (stored copy.path.nodes) → (begun ended : V) × (count : ℕ) × HasFailedIn takes begun ended b tree copy count lost.failure.kind lost.choices.items
 
-  -- what it came to, where runs of it were made
+  -- how it went, where runs of it were made
   pub came_so : (x : Done V) (job : Job V) (worked : Worked) → (worked ≡ Made 0 → ⊥) → x.worked ≡ Ok worked → MayBeWorkedOn takes b tree job x → CameTo takes b tree job x (Ok worked)
   came_so x job worked some came w = elim w.1 [
     | inl e ↦ absurd (some (same e))

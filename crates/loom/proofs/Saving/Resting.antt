@@ -5,7 +5,7 @@ use Rattle.loom_engine.specs.Trees.Resuming.{AreAtRest, HasDefaults}
 use Rattle.loom_engine.proofs.Walk.Lists.{node_on}
 use Rattle.loom_engine.specs.Path.WellFormed.{AreAtRest as AllAtRest}
 
--- each of a list is as what stands at a place of it
+-- each of a list is as what is at a place of it
 pub all_resting : (p : List Stored) → AreAtRest p → HasDefaults p → AllAtRest p
 unfolding node_at
 all_resting [] rest defaults = tt

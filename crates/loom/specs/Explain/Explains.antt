@@ -15,7 +15,7 @@ use Rattle.loom.specs.declared.model.builder.Builder.{Builder}
 use Rattle.loom.specs.Model.Fresh.{IsReplay}
 use Rattle.loom.specs.Model.Settings.{explores}
 
--- the run of this body along the path is told, which comes to the other path
+-- the run of this body along the path is told, which leaves the other path
 abbrev pub IsToldAlong : {D S : Type 0} → Meaning D S → Builder → S → Route → Told → Route → Type 0
 IsToldAlong next b body old told new = IsToldAs (story_of old.search next old.explores b.max_threads b.max_steps body (trail old)) told new
 
@@ -43,7 +43,7 @@ module _ {D S : Type 0} (b : Builder) (next : Meaning D S) (body : S) (given : L
 
   -- what is told of a run
   pub record Explains (e : Explanation) : Type 0 where
-    -- its events, each of them, in order: who was told what, and handed over what
+    -- its events, each of them, in order: who got which reply, and handed over what
     pub events : e.events.items ≡ told_run.events
     -- its choices and its end
     pub ends : IsReplayTo e.choices.items e.end

@@ -1,4 +1,4 @@
--- A run told as events: which thread was told what, and what it handed over then, after how many choices.
+-- A run told as events: which thread got which reply, and what it handed over then, after how many choices.
 use Rattle.std.specs.Prelude.{ℕ, zero, suc, ◌≡◌, Bool, List, [], ◌∷◌, Option, Some, None, Ok, Err, slice_get, slice_set}
 use Rattle.loom_views.specs.declared.rt.failure.FailureKind.TheVariants.{TooManySteps, Misuse}
 use Rattle.loom_objects.specs.Operation.Labelled.{Op}
@@ -20,7 +20,7 @@ use Rattle.loom_explain.specs.declared.event.End.TheVariants.{Ended, Failed}
 use Rattle.loom.specs.declared.explain.events.telling.Told.{Told}
 use Rattle.loom_objects.specs.Operation.Bare.{bare_op, bare_reply}
 
--- the events of a run, in order; what it comes to, and the path after it
+-- the events of a run, in order; how it ends, and the path after it
 pub record Story (D : Type 0) : Type 0 where
   pub events : List Event
   pub comes : Outcome D
@@ -29,7 +29,7 @@ pub record Story (D : Type 0) : Type 0 where
 abbrev pub nothing_more : {D : Type 0} → Outcome D → Story D
 nothing_more comes = record { events = []; comes = comes }
 
--- The thread, which was told this, hands over the operation, when the run has made so many choices.
+-- The thread, which got this reply, hands over the operation, when the run has made so many choices.
 abbrev pub event_of : {D S : Type 0} → ℕ → Reply D → Op D S → ℕ → Event
 event_of thread answer op choices = record { thread = thread; told = bare_reply answer; op = bare_op op; choices_before = choices }
 
@@ -48,14 +48,14 @@ by_body rest path None = nothing_more (Err Misuse, path)
 by_body rest path (Some body) = rest body
 
 module _ {D S : Type 0} (s : Settings) where
-  -- The body of a thread that was told this hands over an operation and is in its next state. That is an event, and the operation
+  -- The body of a thread that got this reply hands over an operation and is in its next state. That is an event, and the operation
   -- is submitted along the path.
   abbrev pub hands_over : (List S → Course D → Trail → ℕ → Reply D → Story D) → List S → Course D → Trail → ℕ → Reply D → S × Op D S → Story D
   hands_over rest bodies c path thread answer (after, op) =
       begins_with (event_of thread answer op path.position)
       (goes_on (rest (with_child (slice_set bodies thread after) (started op))) (drive s (marking s.bound) (submit (plain op) c) path))
 
-  -- The story of what is left of a run: the thread is told the reply, its body hands over its next operation, and so on to the
+  -- The story of what is left of a run: the thread gets the reply, its body hands over its next operation, and so on to the
   -- run's end. The number bounds the operations to come. `runs` is made so too.
   unfoldable pub story : Meaning D S → ℕ → List S → Course D → Trail → ℕ → Reply D → Story D
   story next zero bodies c path thread answer = nothing_more (Err TooManySteps, path)
@@ -74,7 +74,7 @@ EndsAs {D} story events (Failed failure) path = story ≡ record { events = even
 abbrev pub IsToldAs : {D : Type 0} → Story D → Told → Route → Type 0
 IsToldAs story told path = EndsAs story told.events.items told.end (trail path)
 
--- What the story of a body's run along a path comes to is what its tree of runs comes to along that path.
+-- The story of a body's run along a path has the outcome that its tree of runs has along that path.
 abbrev pub StoryLaw : Type 0 → Type 0 → Type 0
 StoryLaw D S = (s : Settings) (next : Meaning D S) (explores : Bool) (max_threads max_steps : ℕ) (body : S) (path : Trail)
     → (story_of s next explores max_threads max_steps body path).comes ≡ drive s (marking s.bound) (runs next explores max_threads max_steps body) path

@@ -89,7 +89,7 @@ TogetherLaw D = (s : Settings) (explores : Bool) (tree : Tree D) (text : Option 
 
 -- ---- stores
 
--- What a store may hold at a report is a text of a path that the check has come to, after all but the last runs, no more than
+-- What a store may hold at a report is a text of a path that the check has reached, after all but the last runs, no more than
 -- the interval.
 pub record IsHeld {D : Type 0} (b : Builder) (tree : Tree D) (holds : Option (List ℕ) → Type 0) (path : List Node) (runs : List (List Choice × D)) : Type 0 where
   pub text : Option (List ℕ)

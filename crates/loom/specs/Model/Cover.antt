@@ -62,11 +62,11 @@ module _ {D S : Type 0} (next : Meaning D S) (run : Noting D S) where
   abbrev pub IsTabled : Noted D S → Route → Type 0
   IsTabled noted path = under.Tables run.room (marking None) next run.explores run.max_threads run.max_steps run.body run.path run.old noted (trail path)
 
-  -- the run has left the path and what was noted so: it came to this, or was given up
+  -- the run has left the path and what was noted so: it ended so, or was given up
   abbrev pub Leaves : Result (Option D) FailureKind → Route → Noted D S → Type 0
   Leaves came path noted = under.Leaves run.room (marking None) next run.explores run.max_threads run.max_steps run.body run.path run.old came (trail path) noted
 
-  -- the thread is to be told the reply
+  -- the thread is to get the reply
   pub record IsUnderWay (bodies : List S) (progress : Progress D) (path : Route) (thread : ℕ) (answer : Reply D) (noted : Noted D S) : Type 0 where
     pub course : Course D
     pub shown : ShowsCourse course progress path
@@ -82,7 +82,7 @@ module _ {D S : Type 0} (next : Meaning D S) (run : Noting D S) where
     pub tables : IsTabled noted path
     pub whole : path.search ≡ whole_search run.room
 
-  -- its operation has come to its branch point
+  -- its operation has reached its branch point
   pub record IsAtBranch (bodies : List S) (progress : Progress D) (path : Route) (noted : Noted D S) : Type 0 where
     pub course : Course D
     pub shown : ShowsCourse course progress path
@@ -109,7 +109,7 @@ module _ {D S : Type 0} (next : Meaning D S) (run : Noting D S) where
   EndsWith (Met number) path noted = Meets number path noted
   EndsWith (Failed failure) path noted = Leaves (Err failure.kind) path noted
 
--- Where a run stands its state is looked up, if it explores past its path's nodes: it was noted under this number, or is noted now if
+-- Where a run is, its state is looked up, if it explores past its path's nodes: it was noted under this number, or is noted now if
 -- there may be one more. Elsewhere nothing is looked up.
 abbrev pub LooksUp : {D S : Type 0} → Kept D S → Route → Noted D S → Found → Noted D S → Type 0
 LooksUp state path old (Known number) new = (is_on path.exploring ≡ true) × (is_used_up (trail path) ≡ true) × (slice_get old.states number ≡ Some state) × (new ≡ old)
@@ -121,7 +121,7 @@ pub record LooksUpRun {D S : Type 0} (run : Progress D) (bodies : List S) (path 
   pub order : IsInOrder run.state.scene.views views
   pub looks : LooksUp (state_in old.never run bodies views) path old found new
 
--- A run stands at a branch point, with these bodies. Its state was noted before, and it is given up; or it is noted or isn't, and the
+-- A run is at a branch point, with these bodies. Its state was noted before, and it is given up; or it is noted or isn't, and the
 -- schedule is made.
 abbrev pub Passes : {D S : Type 0} → List S → ExecutionState D → Route → Noted D S → Result (Turn D) Halt → ExecutionState D → Route → Noted D S → Type 0
 Passes bodies old path noted (Ok turn) new after more = LooksUpRun old.run bodies path noted New more × Schedules old path (Ok turn) new after

@@ -1,4 +1,4 @@
--- What it comes to that a part of a covering search is worked on.
+-- How the work on a part of a covering search goes.
 use Rattle.std.specs.Prelude.{ℕ, ◌≡◌, ◌≤◌, ◌<◌, ◌+◌, ◌^◌, max, ◌⊎◌, Bool, true, false, List, [], ◌∷◌, ◌++◌, take, length, Option, Some, None, Err}
 use Rattle.loom_views.specs.declared.rt.failure.FailureKind.{FailureKind}
 use Rattle.loom_objects.specs.declared.choice.Choice.{Choice}
@@ -44,8 +44,8 @@ module _ {D S : Type 0} (b : Builder) (next : Meaning D S) (body : S) where
   abbrev pub cover_machine : Machine
   cover_machine = machine_of (whole_search b.max_branches) (marking None) body_runs
 
-  -- A covering search of the body has come to these parts, which visitors were given these runs of; and each state that was noted is of a run
-  -- that was made. The body is known never to switch whether the search explores, or isn't.
+  -- A covering search of the body has reached these parts, which visitors were given these runs of; and each state that was noted is of a
+  -- run that was made. The body is known never to switch whether the search explores, or isn't.
   pub record HaveSpreadTo (parts : Parts) (noted : Noted D S) (given : List (List Choice × D)) : Type 0 where
     pub never : Bool
     pub known : IsKnown never next body
@@ -53,8 +53,8 @@ module _ {D S : Type 0} (b : Builder) (next : Meaning D S) (body : S) where
     pub come : HasSpread b.max_branches (marking None) body_runs (state_so b next body never) left given parts
     pub table : IsTableOf never (state_so b next body never) left noted
 
--- A list of parts from the beginning is one to which a covering search has come by no run, and where what was noted is forgotten it has come to
--- the list still.
+-- A list of parts from the beginning is one that a covering search has reached by no run, and where what was noted is forgotten it has
+-- still reached the list.
 abbrev pub BeginLaw : Type 0 → Type 0 → Type 0
 BeginLaw D S = (b : Builder) (next : Meaning D S) (body : S) (never : Bool) (parts : Parts) → IsKnown never next body → ((m : Machine) → IsSpread m [] parts)
     → HaveSpreadTo b next body parts (record { states = []; led_by = []; never = never }) []
@@ -80,8 +80,8 @@ module _ {V D S : Type 0} (takes : V → List Choice → D → V → Type 0) (ol
   TakesIt c (Some value) = takes old c value new
   TakesIt c None = new ≡ old
 
-  -- A run along the path p, after runs that had left all these paths. It came to this value, or was given up in a state at a node of those
-  -- paths or its own. The search has stepped on from the path that it left, and the states that were noted are of these nodes.
+  -- A run along the path p, after runs that had left all these paths. It ended with this value, or was given up in a state at a node of
+  -- those paths or its own. The search has stepped on from the path that it left, and the states that were noted are of these nodes.
   pub record HasGone (never : Bool) (all : List (List Stored)) (more : Noted D S) (came : Option D) (is_last : Bool) (later : List Stored) : Type 0 where
     pub left : List Stored
     pub left_by : IsLeftBy p left
@@ -92,7 +92,7 @@ module _ {V D S : Type 0} (takes : V → List Choice → D → V → Type 0) (ol
     pub table : IsTableOf never (state_so b next body never) (left ∷ all) more
 
   -- Runs along the path p, and along those that follow above the floor, after runs that had left all these paths. So many ended and were given
-  -- to the visitor, and so many were given up in states at nodes of those paths or their own. The search has come to this path, and
+  -- to the visitor, and so many were given up in states at nodes of those paths or their own. The search has reached this path, and
   -- the states that were noted are of their nodes.
   pub record HaveMade (never : Bool) (all : List (List Stored)) (more : Noted D S) (count met : ℕ) (is_done : Bool) (q : List Stored) : Type 0 where
     pub given : List (List Choice × D)
@@ -112,7 +112,7 @@ module _ {D S : Type 0} (b : Builder) (next : Meaning D S) (body : S) (known not
     pub noted_so : IsTableOf never (state_so b next body never) all noted
 
 module _ {V D S : Type 0} (takes : V → List Choice → D → V → Type 0) (old new : V) (b : Builder) (next : Meaning D S) (body : S) (known noted more : Noted D S) where
-  -- what one run comes to along a path, and the step above a floor
+  -- how one run along a path went, and the step above a floor
   abbrev pub GoesOn : ℕ → Route → Route → Went → Type 0
   GoesOn floor path later (went.Ended is_last) =
       (later ≡ at_rest path.search path.explores later.nodes)
@@ -122,13 +122,13 @@ module _ {V D S : Type 0} (takes : V → List Choice → D → V → Type 0) (ol
       × ((never : Bool) (all : List (List Stored)) → IsGoing b next body known noted (stored path.nodes) never all → HasGone takes old new b next body floor (stored path.nodes) never all more None is_last (stored later.nodes))
   GoesOn floor path later (went.Failed failure choices) = (never : Bool) (all : List (List Stored)) → IsGoing b next body known noted (stored path.nodes) never all → FailsBy b next body failure.kind choices.items
 
-  -- what it comes to that runs are made along a path and those that follow
+  -- how the runs along a path and those that follow went
   abbrev pub CoversAbove : ℕ → Route → Route → Above → Type 0
   CoversAbove floor path later (above.Made count met is_done) =
       (never : Bool) (all : List (List Stored)) → IsGoing b next body known noted (stored path.nodes) never all → HaveMade takes old new b next body floor (stored path.nodes) never all more count met is_done (stored later.nodes)
   CoversAbove floor path later (above.Failed count met failure choices) = (never : Bool) (all : List (List Stored)) → IsGoing b next body known noted (stored path.nodes) never all → FailsBy b next body failure.kind choices.items
 
-  -- What it comes to that the part is worked on. Where none of its runs was left none was made.
+  -- How the work on the part went. Where none of its runs was left none was made.
   abbrev pub Covers : Part → Part → PartCovered → Type 0
   Covers part later (Made count met) =
       (later.base.items ≡ part.base.items)

@@ -86,9 +86,9 @@ module _ {D S : Type 0} (b : Builder) (next : Meaning D S) (body : S) where
   abbrev pub state_so : Bool → List Choice → Key D S
   state_so never = state_after (seen_by never) next (explores b) b.max_threads b.max_steps body
 
-  -- Covering checks of the body have come to this path, the first from the beginning, and each that followed from where the one before it was
-  -- stopped: these states were kept, of a body of which that is known or isn't, these paths were left by their runs, and the visitor was
-  -- given these runs.
+  -- Covering checks of the body have reached this path, the first from the beginning, and each that followed from where the one before it
+  -- was stopped: these states were kept, of a body of which that is known or isn't, these paths were left by their runs, and the visitor
+  -- was given these runs.
   pub record HaveComeTo (path : List Node) (given : List (List Choice × D)) : Type 0 where
     pub never : Bool
     pub known : IsKnown never next body

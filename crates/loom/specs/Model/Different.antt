@@ -38,7 +38,7 @@ pub record AreDifferent (count : ℕ) (lists : List (List Choice)) : Type 0 wher
   pub among : Each (λ x. Member x lists) some
   pub hashed : Each (λ x. HasHash (hash_of x) some) lists
 
--- how many of the lists are different ones, where that is told
+-- how many of the lists are different ones, where that is known
 abbrev pub TellsDifferent : Option ℕ → List (List Choice) → Type 0
 TellsDifferent different lists = IfSome different (λ count. AreDifferent count lists)
 
@@ -65,6 +65,15 @@ Has hashes hash = IsTrue (list_any (nat_eq hash) hashes)
 pub record Notes (hash : ℕ) (old new : Counted) : Type 0 where
   pub still : new.is_left_out ≡ false → old.is_left_out ≡ false
   pub noted : new.is_left_out ≡ false → (h : ℕ) → Has new.hashes h ↔ ((h ≡ hash) ⊎ Has old.hashes h)
+
+-- the hashes of another count came
+pub record Adds (other old new : Counted) : Type 0 where
+  pub still : new.is_left_out ≡ false → (old.is_left_out ≡ false) × (other.is_left_out ≡ false)
+  pub added : new.is_left_out ≡ false → (h : ℕ) → Has new.hashes h ↔ (Has other.hashes h ⊎ Has old.hashes h)
+
+-- the hashes are those of these lists, unless their number is left out
+abbrev pub Tells : Counted → List (List Choice) → Type 0
+Tells d lists = d.is_left_out ≡ false → (h : ℕ) → Has d.hashes h ↔ HasHash h lists
 
 -- how many there are, of which no two are the same
 pub record IsCount (d : Counted) (count : ℕ) : Type 0 where

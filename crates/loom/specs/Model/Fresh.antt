@@ -54,7 +54,7 @@ module _ {V D : Type 0} (takes : V → List Choice → D → V → Type 0) (old 
 -- ---- replays
 
 module _ {D : Type 0} (max_branches : ℕ) (tree : Tree D) (given : List Choice) where
-  -- The run that takes the given choices and then defaults made these choices, and came to this. Where each given choice
+  -- The run that takes the given choices and then defaults made these choices, and ended so. Where each given choice
   -- is an option where it comes, it is the machine's run after them. That doesn't rest on what a search tries.
   pub record IsReplay (made : List Choice) (comes : Result D FailureKind) : Type 0 where
     pub replayed : replayed max_branches tree given ≡ (made, comes)

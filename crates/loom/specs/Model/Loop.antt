@@ -16,7 +16,7 @@ HasReached answered b runs None = runs < most_runs b
 HasReached answered b runs (Some Permutations) = most_runs b ≤ runs
 HasReached answered b runs (Some Lasting) = HasLasted answered b.max_duration × (runs < most_runs b)
 
--- The run of the tree along the path comes to this, and leaves the path so. Where no places are kept a failure has none.
+-- The run of the tree along the path ends with this, and leaves the path so. Where no places are kept a failure has none.
 abbrev pub Comes : {D : Type 0} → Tree D → Bool → Route → Result D Failure → Route → Type 0
 Comes tree keeps old (Ok value) new = drives tree old ≡ (Ok value, trail new)
 Comes tree keeps old (Err failure) new = (drives tree old ≡ (Err failure.kind, trail new)) × (keeps ≡ false → failure.location ≡ None)

@@ -1,4 +1,4 @@
--- What it comes to that a part of a search is worked on.
+-- How the work on a part of a search goes.
 use Rattle.std.specs.Prelude.{◌≡◌, ◌≤◌, ◌<◌, ◌+◌, ◌^◌, max, ◌⊎◌, ℕ, Bool, true, false, List, [], ◌∷◌, length, Some, Result, Ok, Err}
 use Rattle.loom_views.specs.declared.rt.failure.FailureKind.{FailureKind}
 use Rattle.loom_objects.specs.declared.choice.Choice.{Choice}
@@ -25,7 +25,7 @@ use Rattle.loom.specs.Model.Settings.{search_of}
 -- ---- one round
 
 module _ {V D : Type 0} (comes : Route → Result D Failure → Route → Type 0) (takes : V → List Choice → D → V → Type 0) (floor : ℕ) (old : Route) (receiver : V) where
-  -- the run along the path came to a value, which the receiver was given, and then the path stepped above the floor, or couldn't
+  -- the run along the path ended with a value, which the receiver was given, and then the path stepped above the floor, or couldn't
   pub record HasEndedAbove (on : Bool) (new : Route) (later : V) : Type 0 where
     pub value : D
     pub after : Route
@@ -34,7 +34,7 @@ module _ {V D : Type 0} (comes : Route → Result D Failure → Route → Type 0
     pub steps : StepsAbove floor after.nodes on new.nodes
     pub rests : new ≡ at_rest old.search old.explores new.nodes
 
-  -- what a round came to
+  -- how a round went
   abbrev pub ComesToAbove : Round → Route → V → Type 0
   ComesToAbove round.Next new later = HasEndedAbove true new later
   ComesToAbove round.Last new later = HasEndedAbove false new later
@@ -46,13 +46,13 @@ module _ {V D : Type 0} (comes : Route → Result D Failure → Route → Type 0
 abbrev pub HasLed : Machine → ℕ → List Stored → List (List Choice) → List Stored → Type 0
 HasLed m floor p runs q = ((runs ≡ []) × (q ≡ p)) ⊎ Slice m floor p runs q
 
--- the visitor was given these runs, of which the newest stands first
+-- the visitor was given these runs, the newest first
 abbrev pub GivenBack : {V D : Type 0} → (V → List Choice → D → V → Type 0) → V → List (List Choice × D) → V → Type 0
 GivenBack takes old [] new = new ≡ old
 GivenBack takes old (made ∷ runs) new = (mid : _) × GivenBack takes old runs mid × takes mid made.0 made.1 new
 
 module _ {V D : Type 0} (takes : V → List Choice → D → V → Type 0) (old new : V) (b : Builder) (tree : Tree D) (part : Part) where
-  -- the visitor was given these runs of the part, which come to their values, so many; the newest stands first
+  -- the visitor was given these runs of the part, with their values, so many, the newest first
   pub record HasGiven (count : ℕ) : Type 0 where
     pub runs : List (List Choice × D)
     pub given : GivenBack takes old runs new
@@ -76,7 +76,7 @@ module _ {V D : Type 0} (takes : V → List Choice → D → V → Type 0) (old 
   abbrev pub IsOfBody : Type 0
   IsOfBody = IsResting (machine (search_of b) tree) (stored part.path.nodes)
 
-  -- What it comes to that the part is worked on. Where none of its runs was left none was made.
+  -- How the work on the part went. Where none of its runs was left none was made.
   abbrev pub Works : Part → Worked → Type 0
   Works later (Made count) =
       (later.base.items ≡ part.base.items)

@@ -75,7 +75,7 @@ pub record HeldBack {D : Type 0} (b : Builder) (tree : Tree D) (gives holds : Op
   pub runs : List (List Choice × D)
   pub held : IsHeld b tree holds path runs
 
--- After an error a store may hold what it held before the check, or a text of a path that the check has come to.
+-- After an error a store may hold what it held before the check, or a text of a path that the check has reached.
 abbrev pub StillHolds : {D : Type 0} → Builder → Tree D → (Option (List ℕ) → Type 0) → (Option (List ℕ) → Type 0) → (Option (List ℕ) → Type 0) → Type 0
 StillHolds b tree gives old new = Keeps old new ⊎ HeldBack b tree gives new
 

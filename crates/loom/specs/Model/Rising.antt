@@ -28,7 +28,7 @@ module _ {D : Type 0} (b : Builder) (tree : Tree D) where
   abbrev pub CompletesAt : ℕ → Type 0
   CompletesAt bound = (runs : List (List Choice × D)) × IsCompleteReport (search_of (bounded b bound)) tree runs
 
-  -- No run fails in which every choice but a default's stands where the run explores, and at a schedule only if that counts
+  -- No run fails in which every choice but a default's is where the run explores, and at a schedule only if that counts
   -- fewer preemptions than the bound (`IsWithin`).
   abbrev pub NoneFails : ℕ → Type 0
   NoneFails bound = (x : List Choice) (failure : FailureKind) → IsWithin bound b.max_branches tree x → outcome b.max_branches tree x ≢ Some (Err failure)

@@ -15,7 +15,7 @@ use Rattle.loom_engine.specs.Trees.Drive.{Trail}
 use Rattle.loom.specs.declared.model.run.Ending.{Ending}
 use Rattle.loom.specs.declared.model.run.Ending.TheVariants.{Ended, Failed}
 
--- what a run came to, and the path after it
+-- how a run ended, and the path after it
 abbrev pub Outcome : Type 0 → Type 0
 Outcome D = Result D FailureKind × Trail
 

@@ -1,4 +1,4 @@
--- What the calls of a store of checkpoints come to.
+-- What the calls of a store of checkpoints do.
 use Rattle.std.specs.Prelude.{ℕ, ◌≡◌, ◌≢◌, ◌<◌, ◌⊎◌, ◌^◌, ◌-◌, List, ◌++◌, codes, Option, Some, Result, Ok, Err, Vec}
 use Rattle.std.specs.Option.{option_map}
 use Rattle.std.specs.declared.alloc.Global.{Global}

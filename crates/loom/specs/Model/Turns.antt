@@ -23,7 +23,7 @@ abbrev pub behind : {D : Type 0} → List Event → Story D → Story D
 behind events rest = record { events = events ++ rest.events; comes = rest.comes }
 
 module _ {D S : Type 0} (next : Meaning D S) (whole : Story D) where
-  -- A run under way, of which these events were heard: the thread is to be told the reply, and from a course that the code's run
+  -- A run under way, of which these events were heard: the thread is to get the reply, and from a course that the code's run
   -- shows along the path, the rest of the story completes the whole one.
   pub record IsUnderWay (events : List Event) (bodies : List S) (run : Progress D) (path : Route) (thread : ℕ) (answer : Reply D) : Type 0 where
     pub course : Course D

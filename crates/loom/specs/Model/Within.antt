@@ -13,7 +13,7 @@ use Rattle.loom_engine.specs.Trees.Outcomes.{met, outcome, passed}
 use Rattle.loom_engine.specs.Trees.Sound.{IsSoundTree}
 
 module _ {A : Type 0} where
-  -- Each of these choices but a default's stands where the run explores, and at a schedule only if that counts fewer
+  -- Each of these choices but a default's is where the run explores, and at a schedule only if that counts fewer
   -- preemptions than the bound. The room is the largest number of nodes.
   abbrev pub IsWithin : ℕ → ℕ → Tree A → List Choice → Type 0
   IsWithin bound room tree x = (before : List Choice) (o : Choice) (after : List Choice) (n : Made) → x ≡ before ++ o ∷ after → met room tree before ≡ Some n → o ≢ n.default

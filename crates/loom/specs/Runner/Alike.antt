@@ -1,4 +1,4 @@
--- A closure that is told the same does the same: what a check of closures says of each run and of the one before it, as far as both
+-- A closure that gets the same replies does the same: what a check of closures says of each run and of the one before it, as far as both
 -- have made the same choices.
 use Rattle.std.specs.Prelude.{ℕ, ◌≡◌, ◌≢◌, ◌+◌, ◌<◌, List, [], ◌∷◌, length, Some, Result, slice_get, zero, suc}
 use Rattle.loom_views.specs.declared.rt.failure.FailureKind.TheVariants.{NotDeterministic}

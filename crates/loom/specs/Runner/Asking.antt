@@ -1,4 +1,4 @@
--- What a question comes to: an answer that its reply holds, or a stop.
+-- How a question ends: with an answer that its reply holds, or a stop.
 pub use Rattle.loom_ops.specs.Answers.{alone_in, as_loaded, given_in, left_in, channel_in, sent_in, received_in, tried_receive_in, drained_in, done_in, guard_in, tried_in, waited_in, tried_read_in, tried_write_in, present_in, tried_local_in, standing_in, taken_in, joined_in, loaded_in, exchanged_in}
 use Rattle.std.specs.Prelude.{◌≡◌, ◌⊎◌, ⊤, true, List, [], ◌∷◌, ◌++◌, Option, Some, None, Result, Ok, Err}
 use Rattle.loom_objects.specs.declared.operation.Request.{Request}

@@ -56,7 +56,7 @@ module _ {D : Type 0} (limits : Limits) where
   abbrev pub machine : Settings → Run D → Machine
   machine s r = machine_of s (marking s.bound) (tree_of r)
 
-  -- it came to main's result
+  -- it ended with main's result
   pub record HasEnded (r : Run D) : Type 0 where
     pub history : IsHistory limits r.began r.history r.now
     pub value : D

@@ -107,7 +107,7 @@ module _ {D F V : Type 0} (called : F → Teller D → Result D Stop → F → T
   Says holds f v runs f' v' (report.Stopped count limit checkpoint) = IsStopped holds f v runs f' v' (string_bytes checkpoint)
   Says holds f v runs f' v' (report.Failed count failure choices) = HasFailed f v runs f' v' failure choices.items
 
-  -- What a store may hold is a text of a path that the check has come to, after all but the last of these runs, at most so many.
+  -- What a store may hold is a text of a path that the check has reached, after all but the last of these runs, at most so many.
   pub record IsHeld (holds : Option (List ℕ) → Type 0) (f : F) (v : V) (runs : List (Made D)) (most : ℕ) : Type 0 where
     pub text : Option (List ℕ)
     pub held : holds text
@@ -151,7 +151,7 @@ module _ {D F V : Type 0} (called : F → Teller D → Result D Stop → F → T
 -- ---- checks one after another
 
 -- Checks of which each but the last was stopped, and each but the first began with a text of the path to which the one before it had
--- come. The first began with the path of these nodes. Their runs stand in one list, the newest first, and behind them the last check
+-- come. The first began with the path of these nodes. Their runs are in one list, the newest first, and behind them the last check
 -- goes on with the next path, if there is one.
 pub data AreTogether {D F V : Type 0} (called : F → Teller D → Result D Stop → F → Teller D → Type 0) (takes : V → List Choice → D → V → Type 0) (limits : Limits) (s : Settings) (explores : Bool) (path : List Node)
     : List (Made D) → Option Route → Type 0 where

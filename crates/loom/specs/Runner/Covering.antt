@@ -33,7 +33,7 @@ use Rattle.loom.specs.Runner.Parallel.{AreJoined}
 
 module _ {G V D S : Type 0} (takes : V → List Choice → D → V → Type 0) (is_new : V → Type 0) (joins : G → V → G → Type 0) (b : Builder) (next : Meaning D S) (body : S) (before : List (List Choice × D)) (old later : G)
     (parts : Parts) (noted : Noted D S) where
-  -- After the runs that were given before the joined visitors were given so many more, and the search has come to these parts and states.
+  -- After the runs that were given before the joined visitors were given so many more, and the search has reached these parts and states.
   pub record HasGoneOn (count : ℕ) : Type 0 where
     pub given : List (List Choice × D)
     pub joined : AreJoined takes is_new joins old given later
@@ -71,7 +71,7 @@ abbrev pub unnoted : {D S : Type 0} → Bool → Noted D S
 unnoted never = record { states = []; led_by = []; never = never }
 
 module _ {V D S : Type 0} (takes : V → List Choice → D → V → Type 0) (b : Builder) (next : Meaning D S) (body : S) (known : Noted D S) where
-  -- what it came to that the part was worked on by its visitor, with a table of its own
+  -- how the work on the part by its visitor went, with a table of its own
   abbrev pub CameTo : Job V → PartDone D S V → Result PartCovered CheckError → Type 0
   CameTo job done (Ok worked) = Covers takes job.visitor done.visitor b next body known (unnoted known.never) done.states job.part done.part worked
   CameTo job done (Err e) = Unit {0}
@@ -152,12 +152,12 @@ module _ {V D S : Type 0} (takes : V → List Choice → D → V → Type 0) (is
 
 module _ {G V D S : Type 0} (takes : V → List Choice → D → V → Type 0) (is_new : V → Type 0) (joins : G → V → G → Type 0) (b : Builder) (next : Meaning D S) (body : S) (before : List (List Choice × D)) (old later : G)
     (parts : Parts) (noted : Noted D S) where
-  -- what a turn has come to, after the runs that were given before
+  -- how a turn went, after the runs that were given before
   pub record HasTaken (turn : CoverTurn) : Type 0 where
     pub gone : HasGoneOn takes is_new joins b next body before old later parts noted turn.runs
     pub lost : (lost : Lost) → turn.lost ≡ Some lost → FailsBy b next body lost.failure.kind lost.choices.items
 
--- Where these parts of the list are out, no two with the same base, and the search has come to it by the runs of some body.
+-- Where these parts of the list are out, no two with the same base, and the search has reached it by the runs of some body.
 abbrev pub TakesBack : {G V D S : Type 0} → (V → List Choice → D → V → Type 0) → (V → Type 0) → (G → V → G → Type 0) → Meaning D S → Parts → Parts → Noted D S → Noted D S → G → G → List (PartDone D S V) → CoverTurn → Type 0
 TakesBack takes is_new joins next before after known noted old later list turn =
     (b : Builder) (body : _) (given : List (List Choice × _)) → HaveSpreadTo b next body before known given → AreOut takes is_new b next body known before.list.items list → IsOnce (bases list)

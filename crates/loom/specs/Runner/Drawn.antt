@@ -1,4 +1,4 @@
--- A run of threads whose choices are drawn as it comes to them, told as a run along a path that was given them before.
+-- A run of threads whose choices are drawn as it reaches them, told as a run along a path that was given them before.
 use Rattle.std.specs.Prelude.{ℕ, ◌≡◌, ⊤, Bool, true, false, List, Option, Some, None, Result}
 use Rattle.loom_objects.specs.declared.choice.Choice.{Choice}
 use Rattle.loom_objects.specs.declared.failure.Failure.{Failure}
@@ -77,7 +77,7 @@ module _ {D : Type 0} where
   AddsBy false log op label log' = Adds log op label log'
   AddsBy true log op label log' = (given : List Choice) → MayLead (end_in log'.history) log'.now.route given → Adds (led_log given log) op label (led_log given log')
 
-  -- the run began so and drew its choices, and the told list of each thread is its part of the history
+  -- the run began so and drew its choices, and each thread's operations and replies are its part of the history
   pub record SettlesDrawn (log : Log D) (began : Route) (limits : Limits) (told : List (Share D)) : Type 0 where
     pub draws : log.drawn ≡ true
     pub settles : Settles (record log { drawn = false }) began limits told

@@ -169,12 +169,12 @@ module _ {D : Type 0} where
   answer n [] = None
   answer n (e ∷ es) = or_else (replied n e.outcome) (answer n es)
 
-  -- an entry of a thread's told list: each of its operations but the last one
+  -- an entry of a thread's list: each of its operations but the last one
   abbrev pub is_listed : Request D ⊤ → Bool
   is_listed (request.Thread thread.End) = false
   is_listed _ = true
 
-  -- an operation of the thread, and an entry of its told list
+  -- an operation of the thread, and an entry of its list
   abbrev pub is_own : ℕ → Event D → Bool
   is_own n e = (e.by == n) && is_listed e.op
 
@@ -194,7 +194,7 @@ pub record Share (D : Type 0) : Type 0 where
 abbrev pub share : {D : Type 0} → ℕ → List (Entry D) → Share D
 share n es = record { thread = n; entries = es }
 
--- there is a told list for each thread, its part of the history
+-- there is a list for each thread, its part of the history
 pub record AreShares {D : Type 0} (told : List (Share D)) (history : List (Event D)) : Type 0 where
   pub one_each : length told ≡ 1 + made history
   pub parts : (n : ℕ) → n < 1 + made history → slice_get told n ≡ Some (share n (part n history))

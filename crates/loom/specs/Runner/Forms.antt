@@ -1,4 +1,4 @@
--- What the forms of several operations come to: those around a closure, those by which a closure makes a value, and those that ask a
+-- What the forms of several operations do: those around a closure, those by which a closure makes a value, and those that ask a
 -- closure again and again.
 use Rattle.std.specs.Prelude.{ℕ, ◌≡◌, ◌⊎◌, ⊤, Bool, true, false, List, Option, Some, None, Result, Ok, Err}
 use Rattle.loom_objects.specs.declared.operation.Request.{Request}

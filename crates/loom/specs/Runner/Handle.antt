@@ -50,7 +50,7 @@ pub record Teller (D : Type 0) : Type 0 where
   pub name : Option Name
 
 module _ {D : Type 0} where
-  -- a handle with an empty told list
+  -- a handle before its first operation
   abbrev pub newcomer : ℕ → Teller D
   newcomer n = record { thread = n; told = []; starved = false; name = None }
 

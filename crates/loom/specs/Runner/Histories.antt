@@ -71,7 +71,7 @@ module _ {D : Type 0} where
 -- ---- the state that threads share
 
 -- where the run began, its limits, its history, how many threads there are, why it was spoiled, where it is, and whether its choices are
--- drawn as it comes to them (`specs/Runner/Drawn.antt` says what is known then)
+-- drawn as it reaches them (`specs/Runner/Drawn.antt` says what is known then)
 pub record Log (D : Type 0) : Type 0 where
   pub began : Route
   pub limits : Limits
@@ -116,7 +116,7 @@ module _ {D : Type 0} where
     pub goes : Goes log.now op label event log'.now
     pub history : log'.history ≡ log.history ++ event ∷ []
 
-  -- the run began so and followed its path, and the told list of each thread is its part of the history
+  -- the run began so and followed its path, and each thread's operations and replies are its part of the history
   pub record Settles (log : Log D) (began : Route) (limits : Limits) (told : List (Share D)) : Type 0 where
     pub follows : log.drawn ≡ false
     pub began_so : log.began ≡ began

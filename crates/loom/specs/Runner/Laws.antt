@@ -51,7 +51,7 @@ pub record FailsSo {D : Type 0} (limits : Limits) (s : Settings) (r : Run D) (fa
   -- As not deterministic only where it has passed these choices along the path with which it began, and the next node of that isn't
   -- the one that it met, if it met any: or it ended with nodes left over.
   pub differs : failure.kind ≡ NotDeterministic → IsPartedAt (machine limits s r) (stored r.began.nodes) (choices_of r)
-  -- Else by itself: the machine that is handed its operations comes to that failure again by its choices.
+  -- Else by itself: the machine that is handed its operations has that failure again by its choices.
   pub replays : failure.kind ≢ NotDeterministic → replayed s.max_branches (tree_of limits r) (choices_of r) ≡ (choices_of r, Err failure.kind)
 
 -- A run after others that fails does so, and the first run never as not deterministic where the path has no nodes.

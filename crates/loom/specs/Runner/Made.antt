@@ -1,6 +1,6 @@
 -- What is promised of one run. It is what a call of the closure and its handle's `close` make under the lock (`MadeBy`). Its history
--- is one of the machine, from the path with which it began, and the told list of each thread is its part of it (`Settled`). If it ended, the
--- visitor is given it, with its history's choices and result (`Given`).
+-- is one of the machine, from the path with which it began, and each thread's operations and replies are its part of it (`Settled`). If it
+-- ended, the visitor is given it, with its history's choices and result (`Given`).
 use Rattle.std.specs.Prelude.{◌≡◌, List, Some, Result}
 use Rattle.loom_objects.specs.declared.choice.Choice.{Choice}
 use Rattle.loom_engine.specs.declared.rt.execution.Limits.{Limits}
@@ -17,8 +17,8 @@ pub record Made (D : Type 0) : Type 0 where
   pub handle : Teller D
   pub answer : Result D Stop
 
--- Its history is one of the machine from its beginning, the told list of each thread is its part, and main's part is what its closure and
--- `close` left.
+-- Its history is one of the machine from its beginning, each thread's operations and replies are its part, and main's part is what its
+-- closure and `close` left.
 pub record Settled {D : Type 0} (limits : Limits) (m : Made D) : Type 0 where
   pub settles : Settles m.log m.began limits m.told
   pub history : IsHistory limits m.began m.log.history m.log.now

@@ -22,7 +22,7 @@ use Rattle.loom.specs.Model.Settings.{most_runs, search_of}
 
 -- ---- visitors
 
--- Visitors were joined, one after another. Each was new, and then was given some runs. All of these stand in one list, the newest first.
+-- Visitors were joined, one after another. Each was new, and then was given some runs. All of these are in one list, the newest first.
 pub data AreJoined {G V D : Type 0} (takes : V → List Choice → D → V → Type 0) (is_new : V → Type 0) (joins : G → V → G → Type 0) (old : G) : List (List Choice × D) → G → Type 0 where
   none : AreJoined takes is_new joins old [] old
   one_more : (runs more : List (List Choice × D)) (before after : G) (first last : V) → AreJoined takes is_new joins old runs before → is_new first → GivenBack takes first more last
@@ -31,7 +31,7 @@ pub data AreJoined {G V D : Type 0} (takes : V → List Choice → D → V → T
 -- ---- runs
 
 module _ {D : Type 0} (b : Builder) (tree : Tree D) where
-  -- After these runs, a run with these choices comes to that failure: it is reachable, wasn't made, and its choices lead to the
+  -- After these runs, a run with these choices ends in that failure: it is reachable, wasn't made, and its choices lead to the
   -- failure again.
   pub record FailsSo (made : List (List Choice)) (failure : FailureKind) (failing : List Choice) : Type 0 where
     pub reachable : Reachable (machine (search_of b) tree) failing
@@ -40,7 +40,7 @@ module _ {D : Type 0} (b : Builder) (tree : Tree D) where
 
 module _ {G V D : Type 0} (takes : V → List Choice → D → V → Type 0) (is_new : V → Type 0) (joins : G → V → G → Type 0) (b : Builder) (tree : Tree D) (made : List (List Choice)) (old later : G)
     (parts : Parts) where
-  -- After the runs that had been made so many more were made, which the joined visitors were given, and the search has come to these parts.
+  -- After the runs that had been made so many more were made, which the joined visitors were given, and the search has reached these parts.
   pub record HasGoneOn (count : ℕ) : Type 0 where
     pub runs : List (List Choice × D)
     pub joined : AreJoined takes is_new joins old runs later

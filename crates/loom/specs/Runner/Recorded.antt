@@ -1,5 +1,5 @@
--- What a check of recorded closures promises. A closure is a function of its replies if what it hands over rests on nothing but what
--- its thread was told. For each such function that does what the threads did in the runs that the check has made of the closure, the
+-- What a check of recorded closures promises. A closure is a function of its replies if what it hands over rests on nothing but the
+-- replies to its thread. For each such function that does what the threads did in the runs that the check has made of the closure, the
 -- report is that of a check of the body which that function is (`ReportsRecorded`). So it is of a check that remembers states
 -- (`CoversRecorded`), and of one by several workers (`FindsRecorded`).
 use Rattle.std.specs.Prelude.{ℕ, ◌≡◌, ⊤, Bool, List, [], ◌∷◌, All, Option, Some, None, option_map, IfSome, Result, Ok, Err, slice_get, slice_set}
@@ -73,14 +73,14 @@ module _ {D : Type 0} where
 
   -- ---- what was done in a run
 
-  -- what comes after an event: the thread whose turn it is is told its reply, or the run is over
+  -- what comes after an event: the thread whose turn it is gets its reply, or the run is over
   abbrev pub GoesOn : (List (Word D) → ℕ → Reply D → Type 0) → List (Word D) → Result (Turn D) Failure → Type 0
   GoesOn rest words (Ok (turn.Reply thread answer)) = rest words thread answer
   GoesOn rest words (Ok (turn.Start thread)) = rest words thread reply.Start
   GoesOn rest words (Ok (turn.Ended value)) = Unit {0}
   GoesOn rest words (Err failure) = Unit {0}
 
-  -- The threads were told this so far, and this thread is told the reply. It hands over by the function what the first of these
+  -- The threads were told this so far, and this thread gets the reply. It hands over by the function what the first of these
   -- events says, and so on to the last one.
   abbrev pub Does : Function D → List (Event D) → List (Word D) → ℕ → Reply D → Type 0
   Does does [] words thread answer = Unit {0}
@@ -132,7 +132,7 @@ pub record StillHoldsRecorded {D F : Type 0} (called : F → Teller D → Result
   -- the path is one of a check of each function that does what the threads did in these
   pub as_body : (does : Function D) → AreDone does real → StillHolds b (by_function does) [] gives old new
 
--- What it came to that a part of a search of this closure was worked on, and what the visitor was given.
+-- How the work on a part of a search of this closure went, and what the visitor was given.
 pub record WorksRecorded {D F V : Type 0} (called : F → Teller D → Result D Stop → F → Teller D → Type 0) (takes : V → List Choice → D → V → Type 0) (b : Builder) (f : F) (v v' : V) (part later : Part)
     (worked : Worked) : Type 0 where
   -- the runs that were made of the closure

@@ -70,7 +70,7 @@ module _ {D : Type 0} where
   AreAt words (place ∷ places) [] = ⊥
   AreAt words (place ∷ places) (word ∷ told) = IsAt words place word × AreAt words places told
 
-  -- A thread that was told the reply hands over this operation by the function, and is at the next place; what it starts is at a place
+  -- A thread that gets the reply hands over this operation by the function, and is at the next place; what it starts is at a place
   -- more.
   pub record HandsOver (does : Function D) (words : List (Word D)) (told : List (Word D)) (thread : ℕ) (answer : Reply D) (op : Request D ⊤) (places : List ℕ) : Type 0 where
     pub word : Word D
@@ -101,17 +101,17 @@ module _ {D : Type 0} where
     pub after_so : added.after ≡ old.places
     pub child_so : HasChild asked old.places added.child new.places
 
-  -- what is recorded of a thread at the place that is told this reply: by the answer of this number that it hands over this operation,
-  -- which stood there or was added; or another operation
+  -- what is recorded of this reply to a thread at the place: by the answer of this number that it hands over this operation, which was
+  -- there or was added; or another operation
   abbrev pub HasAnswered : Answers D → ℕ → Reply D → Request D ⊤ → Answers D → Answered → Type 0
   HasAnswered old place answer asked new (So k) = ((z : IsFound old place answer k) × (z.found.op ≡ asked) × (new ≡ old)) ⊎ IsLonger old place answer asked k new
   HasAnswered old place answer asked new (Other k) = k < length new.answers
 
-  -- the function hands over this operation for the thread, if there is one, that was told this, and is told the reply
+  -- the function hands over this operation for the thread, if there is one, that was told this, and gets the reply
   abbrev pub IsAsked : Function D → List (Word D) → ℕ → Reply D → Request D ⊤ → Type 0
   IsAsked does told thread answer asked = IfSome (slice_get told thread) (λ word. does (tells answer ∷ word) ≡ asked)
 
-  -- whose turn comes after an event, and what the thread is told then
+  -- whose turn comes after an event, and the reply to that thread
   abbrev pub told_next : Result (Turn D) Because → Option (ℕ × Reply D)
   told_next (Ok (turn.Reply thread answer)) = Some (thread, answer)
   told_next (Ok (turn.Start thread)) = Some (thread, reply.Start)
@@ -122,7 +122,7 @@ module _ {D : Type 0} where
 abbrev pub EndsThere : {D : Type 0} → Story D → Ending D → Route → Type 0
 EndsThere whole ending path = (events : List Event) × EndsWith whole events ending path
 
--- A run along the path ended so. If it failed the visitor isn't given it; if it came to a value it is, and the path steps to the next
+-- A run along the path ended so. If it failed the visitor isn't given it; if it ended with a value it is, and the path steps to the next
 -- one, or to none.
 module _ {D V : Type 0} (takes : V → List Choice → D → V → Type 0) where
   pub record IsTaken (value : D) (path : Route) (v : V) (on : Bool) (path' : Route) (v' : V) : Type 0 where

@@ -35,8 +35,8 @@ module _ {D : Type 0} where
   abbrev pub ComesToValue : Log D → Type 0
   ComesToValue log = (value : D) × (ended_by (last_event log.history) ≡ Some value)
 
-  -- The state at its end isn't settled: it was spoiled by a failure that is no event; or it began otherwise, or what some thread was told isn't its
-  -- part of the history; or the history has no end.
+  -- The state at its end isn't settled: it was spoiled by a failure that is no event; or it began otherwise, or some thread's operations
+  -- and replies aren't its part of the history; or the history has no end.
   abbrev pub IsUnsettled : Log D → Route → Limits → List (Share D) → Type 0
   IsUnsettled log began limits told = ((failure : Failure) × (log.spoiled ≡ Some (stop.Failure failure))) ⊎ ((Settles log began limits told → ⊥) ⊎ (end_in log.history ≡ None))
 
@@ -45,7 +45,7 @@ module _ {D : Type 0} where
   abbrev pub IsOpenOrRefused : Log D → RunnerError → Type 0
   IsOpenOrRefused log e = IsRefusedByHost e ⊎ ((e ≡ error.NotSettled) × (end_in log.history ≡ None))
 
-  -- why nothing is told of the state at the end of a run: the host has refused memory or a thread, or it isn't settled
+  -- why the state at the end of a run isn't explained: the host has refused memory or a thread, or it isn't settled
   abbrev pub IsNotTold : Limits → Route → Log D → List (Share D) → RunnerError → Type 0
   IsNotTold limits began log told e = IsRefusedByHost e ⊎ ((e ≡ error.NotSettled) × IsUnsettled log began limits told)
 
@@ -68,7 +68,7 @@ module _ {D F : Type 0} (called : F → Teller D → Result D Stop → F → Tel
     pub unsettled : IsUnsettled log began limits told
 
 module _ {D F V : Type 0} (called : F → Teller D → Result D Stop → F → Teller D → Type 0) (takes : V → List Choice → D → V → Type 0) (limits : Limits) where
-  -- a call of the closure has made a run from this path that came to a result
+  -- a call of the closure has made a run from this path that ended with a result
   pub record HasEnded (f : F) (began : Route) : Type 0 where
     pub run : Made D
     pub after : F
@@ -133,7 +133,7 @@ module _ {D F V : Type 0} (called : F → Teller D → Result D Stop → F → T
     pub runs : List (Made D)
     pub held : IsHeld called takes b path holds f v runs b.checkpoint_interval
 
-  -- After an error a store may hold what it held before the check, or a text of a path that the check has come to.
+  -- After an error a store may hold what it held before the check, or a text of a path that the check has reached.
   abbrev pub StillHolds : (Option (List ℕ) → Type 0) → (Option (List ℕ) → Type 0) → F → V → Type 0
   StillHolds old new f v = Keeps old new ⊎ HeldBack new f v
 

@@ -23,7 +23,7 @@ abbrev pub HasKept : {D : Type 0} → List Choice → D → Option (Vec Choice G
 HasKept choices value None = ⊥
 HasKept choices value (Some (kept, result)) = (kept.items ≡ choices) × (result ≡ value)
 
--- what one run comes to that a call of the closure has made, which begins with this path: it ended or failed as its history says, with
+-- how one run ends that a call of the closure has made, which begins with this path: it ended or failed as its history says, with
 -- the history's choices
 module _ {D F : Type 0} (called : F → Teller D → Result D Stop → F → Teller D → Type 0) (limits : Limits) (start : Route) (f : F) where
   pub record IsMadeAlong (m : Made D) : Type 0 where

@@ -63,7 +63,7 @@ module _ {D F : Type 0} (called : F → Teller D → Result D Stop → F → Tel
     pub counted : Runs f found.runs after
     pub within : (found.runs ≡ 1) ⊎ (found.runs ≤ most)
 
-  -- The run by the given choices fails by the same kind. Nothing is found only where it comes to a result.
+  -- The run by the given choices fails by the same kind. Nothing is found only where it ends with a result.
   abbrev pub Shortens : F → List Choice → ℕ → Option Shortened → Type 0
   Shortens f given most None = (run : Made D) × Follows f given run × (value : D) × (ended_by (last_event run.log.history) ≡ Some value)
   Shortens f given most (Some found) = FailsBy f given found.failure.kind × IsFound f most found

@@ -42,7 +42,7 @@ module _ {D : Type 0} where
   IsUnsettledBy false log path limits told = IsUnsettled log path limits told
   IsUnsettledBy true log path limits told = IsUnsettledDrawn log path limits told
 
-  -- it came to a result, or failed so
+  -- it ended with a result, or failed so
   abbrev pub EndsAs : Log D → Option Failing → Type 0
   EndsAs log None = (value : D) × (ended_by (last_event log.history) ≡ Some value)
   EndsAs log (Some failing) = (failed_by (last_event log.history) ≡ Some failing.failure) × (failing.choices.items ≡ chosen log.now.route)

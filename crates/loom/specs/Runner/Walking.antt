@@ -52,8 +52,8 @@ module _ {D V : Type 0} (takes : V → List Choice → D → V → Type 0) (limi
   JudgedDrawn v began log told end v' = EndsSo v (led_by (chosen log.now.route) began) (led_log (chosen log.now.route) log) told end v'
 
 module _ {D : Type 0} where
-  -- The state isn't settled: the run was spoiled by a failure that is no event; or it began otherwise or didn't draw its choices, or what
-  -- some thread was told isn't its part of the history; or the history has no end.
+  -- The state isn't settled: the run was spoiled by a failure that is no event; or it began otherwise or didn't draw its choices, or some
+  -- thread's operations and replies aren't its part of the history; or the history has no end.
   abbrev pub IsUnsettledDrawn : Log D → Route → Limits → List (Share D) → Type 0
   IsUnsettledDrawn log began limits told = ((failure : Failure) × (log.spoiled ≡ Some (stop.Failure failure))) ⊎ ((SettlesDrawn log began limits told → ⊥) ⊎ (end_in log.history ≡ None))
 
@@ -89,7 +89,7 @@ module _ {D F V : Type 0} (called : F → Teller D → Result D Stop → F → T
   WasDrawn f v path (Failed failure choices) f' v' =
       (m : Made D) × IsByItsChoices path m × MadeBy called takes limits f m f' × HasFailed m.log failure choices.items × (is_cut failure.kind ≡ false) × (v' ≡ v)
 
-  -- a call of the closure has made one that came to a result
+  -- a call of the closure has made one that ended with a result
   pub record CameToResult (f : F) (path : Route) : Type 0 where
     pub run : Made D
     pub after : F
@@ -107,7 +107,7 @@ module _ {D F V : Type 0} (called : F → Teller D → Result D Stop → F → T
 
 -- ---- a walk
 
--- Runs of a walk, one after another: the visitor was given those with these choices, the newest of which stands first, and so many were cut by
+-- Runs of a walk, one after another: the visitor was given those with these choices, the newest first, and so many were cut by
 -- their length.
 pub data Went {D F V : Type 0} (called : F → Teller D → Result D Stop → F → Teller D → Type 0) (takes : V → List Choice → D → V → Type 0) (b : Builder) (f : F) (v : V) : List (List Choice) → ℕ → F → V → Type 0 where
   begins : Went called takes b f v [] 0 f v

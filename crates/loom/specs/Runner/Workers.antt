@@ -1,4 +1,4 @@
--- A turn of several workers: what is handed out, what comes back, and what the list of parts has come to then.
+-- A turn of several workers: what is handed out, what comes back, and what the list of parts is then.
 use Rattle.std.specs.Prelude.{ℕ, suc, ◌≡◌, ◌≤◌, ◌<◌, ◌+◌, ◌^◌, ◌⊎◌, Bool, List, [], ◌∷◌, ◌++◌, map, Some, Result, Ok, Err, slice_get}
 use Rattle.loom_objects.specs.declared.choice.Choice.{Choice}
 use Rattle.loom_objects.specs.Tree.Tree.{Tree}
@@ -31,7 +31,7 @@ AreHandedOut is_new list number (job ∷ jobs) = ((part : Part) × (slice_get li
 -- ---- worked on
 
 module _ {V D : Type 0} (takes : V → List Choice → D → V → Type 0) (b : Builder) (tree : Tree D) where
-  -- what it came to that the part was worked on by its visitor
+  -- how the work on the part by its visitor went
   abbrev pub CameTo : Job V → Done V → Result Worked CheckError → Type 0
   CameTo job done (Ok worked) = Works takes job.visitor done.visitor b tree job.part done.part worked
   CameTo job done (Err e) = Unit {0}
@@ -114,12 +114,12 @@ module _ {V D : Type 0} (takes : V → List Choice → D → V → Type 0) (is_n
 
 module _ {G V D : Type 0} (takes : V → List Choice → D → V → Type 0) (is_new : V → Type 0) (joins : G → V → G → Type 0) (b : Builder) (tree : Tree D) (made : List (List Choice)) (old later : G)
     (parts : Parts) where
-  -- what a turn has come to, after the runs that had been made
+  -- how a turn went, after the runs that had been made
   pub record HasTaken (turn : Turn) : Type 0 where
     pub gone : HasGoneOn takes is_new joins b tree made old later parts turn.runs
     pub lost : (lost : Lost) → turn.lost ≡ Some lost → FailsSo b tree (choices_made gone.runs ++ made) lost.failure.kind lost.choices.items
 
--- Where these parts of the list are out, no two with the same base, and the search has come to it by the runs of some body.
+-- Where these parts of the list are out, no two with the same base, and the search has reached it by the runs of some body.
 abbrev pub TakesBack : {G V D : Type 0} → (V → List Choice → D → V → Type 0) → (V → Type 0) → (G → V → G → Type 0) → Parts → Parts → G → G → List (Done V) → Turn → Type 0
 TakesBack takes is_new joins before after old later list turn =
     (b : Builder) (tree : Tree _) (made : List (List Choice)) → IsRunTree tree → IsAt (machine (search_of b) tree) made before → AreOut takes is_new b tree before.list.items list → IsOnce (bases list)

@@ -1,5 +1,5 @@
 //! Laws of a bound on preemptions: which runs a search that isn't reduced makes with one, said of each run by itself. So what
-//! complete checks with rising bounds leave out is known. The contract of each function is a law. The definitions stand in
+//! complete checks with rising bounds leave out is known. The contract of each function is a law. The definitions are in
 //! `specs/Model/Called.antt` for any machine, in `specs/Model/Within.antt` for trees of runs, and in `specs/Model/BoundExample.antt`.
 ghost use Rattle.loom.specs.Model.Called.{CalledRunsLaw};
 ghost use Rattle.loom.specs.Model.BoundExample.{ExampleLaw};

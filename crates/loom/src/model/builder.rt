@@ -35,7 +35,7 @@ pub struct Builder {
     pub checkpoint_interval: usize,
     /// Whether a run explores only from the operation `explore` on. At nodes before that it takes the default alone.
     pub expect_explicit_explore: bool,
-    /// Whether a run of a covering check goes on from a copy of where an earlier one stood, if the choices up to there are the same, and
+    /// Whether a run of a covering check goes on from a copy of where an earlier one was, if the choices up to there are the same, and
     /// isn't made from its beginning. The check finds the same. The copies are those of one path, 100 at most. A check by several workers,
     /// and one of a part, makes none (own).
     pub snapshots: bool,

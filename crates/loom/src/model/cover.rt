@@ -47,7 +47,7 @@ pub const MOST_STATES: usize = 100_000;
 /// where a state was noted, and `states` the states that were noted.
 #[derive(Debug, Drop)]
 pub enum Covered {
-    /// Nothing is left to be tried, and no run failed: each run of the body is covered, and each can come to an end.
+    /// Nothing is left to be tried, and no run failed: each run of the body is covered, and each can end.
     Complete {
         runs: u64,
         met: u64,
@@ -108,13 +108,13 @@ impl Builder {
     /// Makes runs of the body until each of its runs is covered, one fails or a limit is reached, and gives each that ended without a
     /// failure to the visitor. Its search is whole and without a bound, whatever `reduce` and `preemption_bound` say. So many states are
     /// noted at most; where there are as many none is noted any more, and the report claims the same. `max_permutations` counts the runs
-    /// that were begun. Where a run that never ends comes to a state again it is given up there; if no way leads from there to an end, that
+    /// that were begun. Where a run that never ends reaches a state again it is given up there; if no way leads from there to an end, that
     /// is a livelock.
     ///
     /// It begins with the path that the store holds, if there is one, and saves its path before each run whose number is a multiple of the
-    /// interval, and where it stops. What it had noted is forgotten then: so runs are made again, and livelocks are told of the states alone
-    /// that were noted since. The text of its path says that it is of a covering check: `check_with` refuses it, and this one that of
-    /// another check. Errors are those of `check_with` (own).
+    /// interval, and where it stops. What it had noted is forgotten then: so runs are made again, and livelocks are reported of the
+    /// states alone that were noted since. The text of its path says that it is of a covering check: `check_with` refuses it, and this
+    /// one that of another check. Errors are those of `check_with` (own).
     pub fn cover_with<B: Body + Same, V: Visitor<B::Data>, C: Clock, S: CheckpointStore, L: Log>(
         &self,
         alloc: Global,
@@ -288,7 +288,7 @@ pub(crate) struct Failing {
     pub(crate) choices: Vec<Choice>,
 }
 
-/// What is told where a run failed after these.
+/// The report where a run failed after these.
 pub(crate) fn failed(runs: u64, met: u64, states: usize, failing: Failing) -> Covered
     ensures { result ≡ Covered.Failed runs met states failing.failure failing.choices }
 {
@@ -301,7 +301,7 @@ pub(crate) fn failed(runs: u64, met: u64, states: usize, failing: Failing) -> Co
     }
 }
 
-/// What is told where a limit was reached after these.
+/// The report where a limit was reached after these.
 pub(crate) fn stopped(runs: u64, met: u64, states: usize, limit: Limit) -> Covered
     ensures { result ≡ Covered.Stopped runs met states limit }
 {
@@ -313,7 +313,7 @@ pub(crate) fn stopped(runs: u64, met: u64, states: usize, limit: Limit) -> Cover
     }
 }
 
-/// What is told where nothing is left to be tried, after so many runs that ended and so many that were given up.
+/// The report where nothing is left to be tried, after so many runs that ended and so many that were given up.
 pub(crate) fn told(
     alloc: Global,
     runs: u64,

@@ -1,7 +1,7 @@
 //! How many of a walk's runs differ, by hashes of their choices (own).
 ghost use Rattle.std.specs.Prelude.{◌≡◌, [], IfSome};
 ghost use Rattle.loom_engine.specs.Path.Route.{chosen};
-ghost use Rattle.loom.specs.Model.Different.{AllDifferentLaw, IsCount, Notes, code_of, hash_of, step};
+ghost use Rattle.loom.specs.Model.Different.{Adds, AllDifferentLaw, IsCount, Notes, code_of, hash_of, step};
 
 use loom_engine::rt::path::Path;
 use loom_objects::choice::Choice;
@@ -12,13 +12,13 @@ use std::marker::Model;
 /// So many different runs of a walk the programs tell apart at most (own).
 pub const MOST_DIFFERENT: usize = 1_000_000;
 
-/// The hashes of the runs that came, as long as their number is to be told.
+/// The hashes of the runs that came, as long as their number is to be given.
 #[derive(Drop)]
 pub(crate) struct Different {
     hashes: HashSet<u64>,
     // so many are told apart at most
     most: usize,
-    // whether no number is told: it isn't asked for, there were more, or memory for them was refused
+    // whether no number is given: it isn't asked for, there were more, or memory for them was refused
     is_left_out: bool,
 }
 
@@ -42,7 +42,7 @@ impl Different {
         }
     }
 
-    /// The run along this path came. Nothing is computed of it where no number is to be told.
+    /// The run along this path came. Nothing is computed of it where no number is to be given.
     pub(crate) fn note_run(&mut self, path: &Path)
         ensures { Notes (hash_of (chosen path.now)) self.old self.new }
     {
@@ -66,7 +66,20 @@ impl Different {
         }
     }
 
-    /// How many runs differ, if that is told: so many at least, since two with one hash count once.
+    /// The runs of another count came.
+    pub(crate) fn join(&mut self, other: Different)
+        ensures { Adds other self.old self.new }
+    {
+        if self.is_left_out || other.is_left_out {
+            self.is_left_out = true;
+            return;
+        }
+        'hashes: for hash in other.hashes.iter() {
+            self.note(*hash);
+        }
+    }
+
+    /// How many runs differ, if that is known: so many at least, since two with one hash count once.
     pub(crate) fn count(&self) -> Option<u64>
         ensures { IfSome result (IsCount self.now) }
     {

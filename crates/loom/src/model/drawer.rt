@@ -9,10 +9,18 @@ use rand::RngExt;
 use rand_core::{Rng, SeedableRng};
 use rand_xoshiro::Xoshiro256PlusPlus;
 
+/// So many runs one after another are a leg of a walk. The choices of each leg are drawn from numbers of its own, so that it can be made
+/// without those before it.
+pub(crate) const LEG_RUNS: u64 = 1000;
+
 /// Draws choices: loads and spurious wake-ups evenly, and threads evenly or by priorities.
 #[derive(Clone, Drop)]
 pub(crate) struct Drawer {
     rng: Xoshiro256PlusPlus,
+    // of the next leg
+    next: Xoshiro256PlusPlus,
+    // how many runs of this leg are left
+    left: u64,
     // of threads that aren't drawn evenly
     priorities: Option<Priorities>,
 }
@@ -27,7 +35,7 @@ struct Priorities {
     // the priority of the thread that has sunk last
     lowest: u64,
     changes_left: u64,
-    // how many schedules the run has passed, and the most that a run before it has
+    // how many schedules the run has passed, and the most that a run of the leg before it has
     passed: u64,
     most: u64,
     // how often they change in each run
@@ -35,17 +43,47 @@ struct Priorities {
 }
 
 impl Drawer {
-    /// Before the first run of the walk.
+    /// Before the first leg of the walk.
     pub(crate) fn new(walk: Walk) -> Drawer {
         match walk {
-            Walk::Random { seed, .. } => Drawer {
-                rng: Xoshiro256PlusPlus::seed_from_u64(seed),
-                priorities: None,
-            },
-            Walk::Priorities { seed, depth, .. } => Drawer {
-                rng: Xoshiro256PlusPlus::seed_from_u64(seed),
-                priorities: Some(Priorities::new(u64::from(depth).saturating_sub(1))),
-            },
+            Walk::Random { seed, .. } => Drawer::at(seed, None),
+            Walk::Priorities { seed, depth, .. } => {
+                let changes = u64::from(depth).saturating_sub(1);
+                Drawer::at(seed, Some(Priorities::new(changes)))
+            }
+        }
+    }
+
+    /// Before the first leg of this seed.
+    fn at(seed: u64, priorities: Option<Priorities>) -> Drawer {
+        Drawer {
+            rng: Xoshiro256PlusPlus::seed_from_u64(seed),
+            next: Xoshiro256PlusPlus::seed_from_u64(seed),
+            left: 0,
+            priorities,
+        }
+    }
+
+    /// One that begins with the next leg. This one goes on behind that leg.
+    pub(crate) fn hand_out(&mut self) -> Drawer {
+        let leg = Drawer {
+            rng: same_state(&self.next),
+            next: same_state(&self.next),
+            left: 0,
+            priorities: self.priorities,
+        };
+        self.next.jump();
+        self.left = 0;
+        leg
+    }
+
+    /// Before the first run of the next leg. Each leg has 2^128 numbers.
+    fn begin_leg(&mut self) {
+        self.rng = same_state(&self.next);
+        self.next.jump();
+        self.left = LEG_RUNS;
+        if let Some(priorities) = &mut self.priorities {
+            *priorities = Priorities::new(priorities.changes);
         }
     }
 
@@ -61,10 +99,19 @@ impl Drawer {
 
     /// Before another run.
     pub(crate) fn begin(&mut self) {
+        if self.left == 0 {
+            self.begin_leg();
+        }
+        self.left = self.left.saturating_sub(1);
         if let Some(priorities) = &mut self.priorities {
             priorities.begin(&mut self.rng);
         }
     }
+}
+
+/// Another generator that gives the same numbers.
+fn same_state(rng: &Xoshiro256PlusPlus) -> Xoshiro256PlusPlus {
+    Xoshiro256PlusPlus::from_seed(rng.state())
 }
 
 impl Chooser for Drawer {
@@ -149,7 +196,7 @@ impl Options {
 }
 
 impl Priorities {
-    /// Before the first run: they are to change so often in each.
+    /// Before the first run of a leg: they are to change so often in each.
     fn new(changes: u64) -> Priorities {
         Priorities {
             of: [AFLOAT; MAX_THREADS],

@@ -10,7 +10,7 @@ use loom_objects::operation::{Op, Reply};
 use loom_views::rt::MAX_THREADS;
 use std::alloc::AllocError;
 
-/// Hears each event of a run with these data: what a thread is told, and then what it hands over.
+/// Hears each event of a run with these data: the reply to a thread, and then what it hands over.
 pub trait Listener<D> {
     /// What it does with a reply, of which the data are left out: the listener before it, and after it.
     ghost takes_reply: { Self → Reply ⊤ → Self → Type 0 };
@@ -21,7 +21,7 @@ pub trait Listener<D> {
     /// Whether it may know where an operation was made.
     ghost knows_locations: { Bool };
 
-    /// A thread is told this reply. It fails only where a growth is refused, which ends the run.
+    /// A thread gets this reply. It fails only where a growth is refused, which ends the run.
     fn hear_reply(&mut self, reply: &Reply<D>) -> Result<(), AllocError>
         ensures { OnOk result (takes_reply self.old (bare_reply reply.now) self.new) };
 

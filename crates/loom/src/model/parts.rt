@@ -35,7 +35,7 @@ pub struct Slice {
     pub until: Option<Duration>,
 }
 
-/// What it came to that a part was worked on. `runs` counts the runs that ended without a failure (own).
+/// How the work on a part went. `runs` counts the runs that ended without a failure (own).
 #[derive(Debug, Drop)]
 pub enum Worked {
     /// None of its runs failed. The part says whether more are left.

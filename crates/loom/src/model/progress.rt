@@ -26,7 +26,7 @@ pub(crate) fn log_switches<L: Log>(log: &L, path: &Path) {
     }
 }
 
-/// Logs how much of a search is done, in per cent, where it has come to this path. That is estimated from the options along the path:
+/// Logs how much of a search is done, in per cent, where it has reached this path. That is estimated from the options along the path:
 /// as if as many runs came of one option of a node as of another.
 pub(crate) fn log_share<L: Log>(log: &L, path: &Path) {
     let share = per_cent(share_above(path, 0, WHOLE));
@@ -40,7 +40,7 @@ pub(crate) fn per_cent(share: u64) -> u64
     (share / PER_CENT).min(100)
 }
 
-/// Which share is done where a search has come to this path, of the share that its nodes from this place on stand for.
+/// Which share is done where a search has reached this path, of the share that its nodes from this place on stand for.
 pub(crate) fn share_above(path: &Path, floor: usize, share: u64) -> u64 {
     let mut done = 0u64;
     let mut left = share;

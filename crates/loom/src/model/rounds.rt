@@ -10,7 +10,7 @@ use loom_objects::choice::Choice;
 use loom_objects::failure::Failure;
 use std::alloc::{AllocError, Global};
 
-/// What a round of a check came to.
+/// How a round of a check went.
 #[derive(Drop)]
 pub enum Round {
     /// The run ended, and there is another.

@@ -28,7 +28,7 @@ use std::alloc::{AllocError, Global};
 /// How a run ended.
 #[derive(Drop)]
 pub enum Ending<D> {
-    /// Main came to this value.
+    /// Main ended with this value.
     Ended(D),
     Failed(Failure),
 }
@@ -40,7 +40,7 @@ pub struct Room<B: Body> {
     pub bodies: Vec<B>,
     /// What they work on.
     pub execution: Execution<B::Data>,
-    /// Earlier runs where they stood, if the check keeps any.
+    /// Earlier runs at their branch points, if the check keeps any.
     pub snapshots: Snapshots<B::Data, B>,
 }
 
@@ -147,7 +147,7 @@ fn take_turns<B: Body, L: Listener<B::Data>>(
 
 /// How a run ends whose last operation was answered so while this thread is active. A turn is no end: it is never answered here.
 // It takes the answer whole: taken apart beside the turns, each reply would be moved by its bytes. Inlined, so that no answer has to
-// stand in memory for it.
+// be put in memory for it.
 #[inline(always)]
 fn ended<D: Drop, L: Listener<D>>(
     answer: Result<Turn<D>, Stop>,

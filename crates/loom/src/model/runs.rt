@@ -18,7 +18,7 @@ pub trait RunMaker<D> {
     /// Whether a run begins to explore.
     ghost begins_exploring: { Self → Bool };
 
-    /// What a run does: the path before it, what it comes to, and the path after it.
+    /// What a run does: the path before it, how it ends, and the path after it.
     ghost comes: { Self → Route → Result D Failure → Route → Type 0 };
 
     /// It fails only where a growth is refused.

@@ -122,7 +122,7 @@ impl Builder {
         ending
     }
 
-    /// How many runs are kept at most where they stood.
+    /// How many runs are kept at most, at their branch points.
     pub(crate) fn most_snapshots(&self) -> usize {
         if self.snapshots { MOST_SNAPSHOTS } else { 0 }
     }

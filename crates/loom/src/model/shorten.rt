@@ -21,8 +21,11 @@ use std::alloc::{AllocError, Global};
 /// A run that fails, and how many runs were made to find it (own).
 #[derive(Debug, PartialEq, Eq, Drop)]
 pub struct Shortened {
+    /// Why it fails.
     pub failure: Failure,
+    /// The choices that lead there.
     pub choices: Vec<Choice>,
+    /// How many runs were made.
     pub runs: u64,
 }
 

@@ -5,7 +5,7 @@ ghost use Rattle.loom_engine.specs.Runs.Body.{runs as runs_of};
 ghost use Rattle.loom_engine.specs.Trees.Meeting.{whole_search};
 ghost use Rattle.loom.specs.Model.Check.{HasLasted};
 ghost use Rattle.loom.specs.Model.Settings.{explores, tested};
-ghost use Rattle.loom.specs.Model.Walking.{EndsDrawn, TakesRun, Walks, WalksNoEqualOrders, asked_runs, is_cut};
+ghost use Rattle.loom.specs.Model.Walking.{EndsDrawn, TakesRun, Walks, WalksNoEqualOrders, WalksNoting, asked_runs, is_cut};
 
 use crate::model::builder::Builder;
 use crate::model::clock::Clock;
@@ -28,19 +28,19 @@ use loom_views::rt::failure::FailureKind;
 use std::alloc::{AllocError, Global};
 use std::fmt;
 
-/// How the runs of a walk are drawn, and how many there are (own). A seed gives the same runs on every machine. How often each choice
-/// is drawn isn't promised.
+/// How the runs of a walk are drawn, and how many there are (own). A seed gives the same runs on every machine. They come in legs of a
+/// thousand, each with numbers of its own. How often each choice is drawn isn't promised.
 #[derive(Clone, Copy, Debug, PartialEq, Eq)]
 pub enum Walk {
     /// Each choice is drawn evenly among its options.
     Random { seed: u64, runs: u64 },
     /// Threads have priorities that are drawn for each run: of those that can go on the highest does. `depth - 1` times in a run, at
-    /// schedules that are drawn among as many as a run so far has had, the thread that would go on sinks below all others. A thread
-    /// that yields sinks too. Loads and spurious wake-ups are drawn evenly.
+    /// schedules that are drawn among as many as a run of the leg so far has had, the thread that would go on sinks below all
+    /// others. A thread that yields sinks too. Loads and spurious wake-ups are drawn evenly.
     Priorities { seed: u64, runs: u64, depth: u32 },
 }
 
-/// What a walk found. `runs` counts the runs that ended without a failure, and `cut` those that were cut by their length: they came to
+/// What a walk found. `runs` counts the runs that ended without a failure, and `cut` those that were cut by their length: they reached
 /// `max_branches` or `max_steps`. `different` says how many of `runs` differ in their choices: so many at least, since two with the same
 /// hash count once. It is left out where `max_different` doesn't ask for it, more differ than that, or memory is refused (own).
 #[derive(Debug, PartialEq, Eq, Drop)]
@@ -69,6 +69,26 @@ impl Walk {
             Walk::Random { runs, .. } | Walk::Priorities { runs, .. } => runs,
         }
     }
+
+    /// The walk with so many runs.
+    pub(crate) fn of_runs(self, runs: u64) -> Walk
+        ensures { asked_runs result ≡ runs }
+    {
+        match self {
+            Walk::Random { seed, .. } => Walk::Random { seed, runs },
+            Walk::Priorities { seed, depth, .. } => Walk::Priorities { seed, runs, depth },
+        }
+    }
+}
+
+impl Walked {
+    /// How many runs were begun: the last one is the one that failed, if one did.
+    pub(crate) fn begun(&self) -> u64 {
+        match self {
+            Walked::Made { runs, cut, .. } => runs.saturating_add(*cut),
+            Walked::Failed { runs, cut, .. } => runs.saturating_add(*cut).saturating_add(1),
+        }
+    }
 }
 
 /// How a walk ended, after how many runs. Of a failure what a `Report` says of one.
@@ -91,12 +111,11 @@ impl fmt::Display for Walked {
                 }
             }
             Walked::Failed {
-                runs,
-                cut,
                 failure,
                 choices,
+                ..
             } => {
-                let number = runs.saturating_add(*cut).saturating_add(1);
+                let number = self.begun();
                 let choices = CutChoices(choices.as_slice());
                 write!(
                     f,
@@ -179,28 +198,54 @@ impl Builder {
         ensures errors { IfErr result (λ e. (e ≡ CheckError.Memory) ⊎ (tested self.now ≡ Err e)) }
     {
         self.test()?;
-        let mut room = Room::new(alloc, self.limits())?;
+        let mut drawer = Drawer::new(walk);
         let mut different = Different::new(alloc, self.max_different);
-        let answer = self.make_walk(
+        let walked = self.walk_by(
             alloc,
-            &mut room,
-            &mut different,
             body,
             walk,
+            &mut drawer,
+            &mut different,
             visitor,
             clock,
             log,
-        );
-        room.leave();
-        let walked = answer?;
+        )?;
         Ok(walked)
     }
 
-    /// The runs of a walk, in this room. The settings were tested, and no run has come yet.
+    /// The runs of a walk, whose choices this draws. The settings were tested, and no run has come yet.
+    pub(crate) fn walk_by<B: Body, V: Visitor<B::Data>, C: Clock, L: Log>(
+        &self,
+        alloc: Global,
+        body: &B,
+        walk: Walk,
+        drawer: &mut Drawer,
+        different: &mut Different,
+        visitor: &mut V,
+        clock: &mut C,
+        log: &L,
+    ) -> Result<Walked, AllocError>
+        requires some { 1 ≤ self.now.max_threads }
+        requires few { self.now.max_threads ≤ 5 }
+        requires branches { self.now.max_branches ≤ 1000000 }
+        requires interval { 0 < self.now.checkpoint_interval }
+        requires new { different.old.hashes ≡ [] }
+        ensures { IfOk result (WalksNoting V.takes visitor.old visitor.new self.now (runs_of B.next (explores self.now) self.now.max_threads self.now.max_steps body.now) different.new walk (C.answered clock.new)) }
+    {
+        let mut room = Room::new(alloc, self.limits())?;
+        let answer = self.make_walk(
+            alloc, &mut room, drawer, different, body, walk, visitor, clock, log,
+        );
+        room.leave();
+        answer
+    }
+
+    /// They are made in this room.
     fn make_walk<B: Body, V: Visitor<B::Data>, C: Clock, L: Log>(
         &self,
         alloc: Global,
         room: &mut Room<B>,
+        drawer: &mut Drawer,
         different: &mut Different,
         body: &B,
         walk: Walk,
@@ -213,9 +258,8 @@ impl Builder {
         requires branches { self.now.max_branches ≤ 1000000 }
         requires interval { 0 < self.now.checkpoint_interval }
         requires new { different.old.hashes ≡ [] }
-        ensures { IfOk result (Walks V.takes visitor.old visitor.new self.now (runs_of B.next (explores self.now) self.now.max_threads self.now.max_steps body.now) walk (C.answered clock.new)) }
+        ensures { IfOk result (WalksNoting V.takes visitor.old visitor.new self.now (runs_of B.next (explores self.now) self.now.max_threads self.now.max_steps body.now) different.new walk (C.answered clock.new)) }
     {
-        let mut drawer = Drawer::new(walk);
         let mut path = Path::new(alloc, self.drawn_search());
         let asked = walk.runs();
         let mut cut = 0u64;
@@ -231,7 +275,7 @@ impl Builder {
             }
             self.log_run(log, number);
             drawer.begin();
-            let ending = self.draw(room, body, &mut path, &mut drawer)?;
+            let ending = self.draw(room, body, &mut path, drawer)?;
             match take_run(alloc, &path, ending, visitor, &mut cut, different)? {
                 Taken::On => {}
                 Taken::Failed(kind, choices) => {

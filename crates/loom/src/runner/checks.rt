@@ -38,10 +38,10 @@ use std::thread::Threads;
 /// `recorded` the check is that of `check_recorded`, which calls it more seldom.
 ///
 /// A setting out of range is refused before any run, as `Settings`. Besides, an error comes only where a growth or a thread was
-/// refused, as `Memory` and `Refused`, or where a run's end isn't settled, as `NotSettled`: mostly where the threads' told lists
-/// aren't those of its history. Then the visitor was given just the runs that had ended before. So it was where a thread hands over
-/// another operation than in the run before, after the same choices: that is `Changed`, unless the run fails as `NotDeterministic`,
-/// since its path says otherwise. It has no clock: only a `max_duration` of zero stops it.
+/// refused, as `Memory` and `Refused`, or where a run's end isn't settled, as `NotSettled`: mostly where the threads' operations
+/// and replies aren't those of its history. Then the visitor was given just the runs that had ended before. So it was where a thread
+/// hands over another operation than in the run before, after the same choices: that is `Changed`, unless the run fails as
+/// `NotDeterministic`, since its path says otherwise. It has no clock: only a `max_duration` of zero stops it.
 ///
 /// It begins with the path in the `checkpoint_file`, if one is set, and saves its checkpoints there, as `check_with` does with the
 /// `FileStore` of that name.
@@ -156,7 +156,7 @@ pub(crate) fn check_unsaved<
 ///
 /// A setting out of range is refused before any run, the first one first, and then a text that is no path of this check, both as
 /// `Settings`; a fault of the store is one too. Its other errors are those of `check`. After an error only visitor, clock, store and
-/// log have moved, and the store holds what it held, or a text of a path that the check has come to. Where the path that the store
+/// log have moved, and the store holds what it held, or a text of a path that the check has reached. Where the path that the store
 /// held is one of another closure, the first run may fail as `NotDeterministic`.
 pub fn check_with<
     D: Exact + 'static,

@@ -1,4 +1,4 @@
-//! Calls of closures, and what stands behind a loop of them that has no end. What a closure is given is a type parameter here, since
+//! Calls of closures, and what follows a loop of them that has no end. What a closure is given is a type parameter here, since
 //! the borrow checker doesn't cover a call of a closure that is given a type with references in it.
 ghost use Rattle.std.specs.Fn.{CalledAtMut, CalledWithState};
 
@@ -26,7 +26,7 @@ pub fn poll_closure<H, A, T, F: FnMut(&mut H, A) -> T>(
     closure(handle, given)
 }
 
-/// Waits, and never comes back. It stands behind more rounds than a run can make.
+/// Waits, and never comes back. It follows more rounds than a run can make.
 pub(crate) fn wait_for_ever<R: Wait>(rt: &R) -> ! {
     for _ in rt.forever() {}
     unreachable!()

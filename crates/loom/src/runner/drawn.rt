@@ -1,4 +1,4 @@
-//! One run of a closure whose choices are drawn as it comes to them (own).
+//! One run of a closure whose choices are drawn as it reaches them (own).
 ghost use Rattle.std.specs.Prelude.{◌≤◌, IfOk, IfErr};
 ghost use Rattle.std.specs.Fn.{CalledAtMut};
 ghost use Rattle.loom_engine.specs.Path.Drawn.{IsDrawn};
@@ -33,7 +33,7 @@ use std::thread::Threads;
 /// How a run ended whose choices are drawn.
 #[derive(Drop)]
 pub(crate) enum DrawnEnd {
-    /// It came to main's result, and the visitor was given it. Its choices have this hash.
+    /// It ended with main's result, and the visitor was given it. Its choices have this hash.
     Ended(u64),
     /// It was cut by its length.
     Cut,

@@ -13,7 +13,7 @@ use std::fmt;
 use thiserror::Error;
 
 /// A thread has handed over another operation than in the run before, where both runs had made the same choices; or, where closures are
-/// recorded, than in any run before, where it was told the same (own).
+/// recorded, than in any run before, after the same replies (own).
 #[derive(Debug, PartialEq, Eq, Drop)]
 pub struct Changed {
     /// Which run, from 1.

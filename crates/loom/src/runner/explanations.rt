@@ -26,9 +26,9 @@ use std::alloc::{AllocError, Global};
 use std::sync::Wait;
 use std::thread::Threads;
 
-/// The run of the closure that `replay` makes of these choices, told from its history (own; for bodies it is
-/// `Builder::explain`): what each thread was told and handed over, in order, where each choice was made and of what, and how the
-/// run ended. So the choices of a failure tell it. Errors are those of `replay`.
+/// The run of the closure that `replay` makes of these choices, explained by its history (own; for bodies it is
+/// `Builder::explain`): each reply and operation of each thread, in order, where each choice was made and of what, and how the
+/// run ended. So the choices of a failure explain it. Errors are those of `replay`.
 pub fn explain<
     D: Exact + 'static,
     R: Threads + Wait + Clone + Send + 'static,
@@ -79,7 +79,7 @@ pub(crate) fn explain_lent<
     explain_along(rt, alloc, builder, limits, &path, closure)
 }
 
-/// One run of the closure along this path, told from its history. It has several exits and owns nothing, since what a function
+/// One run of the closure along this path, explained by its history. It has several exits and owns nothing, since what a function
 /// owns is let go at each.
 fn explain_along<
     D: Exact + 'static,
@@ -107,7 +107,7 @@ fn explain_along<
     tell(alloc, builder, limits, path, &*turns, told.as_slice())
 }
 
-/// The run whose state this is at its end, told from its history, if it is settled.
+/// The run whose state this is at its end, explained by its history, if it is settled.
 fn tell<D: Exact>(
     alloc: Global,
     builder: &Builder,
@@ -147,7 +147,7 @@ pub(crate) fn end_of<D: Exact>(turns: &Turns<D>) -> Result<End, RunnerError>
     }
 }
 
-/// What is told of a run by the state at its end.
+/// The explanation of a run by the state at its end.
 fn tell_events<D: Exact>(
     alloc: Global,
     builder: &Builder,

@@ -106,7 +106,7 @@ impl<D: Exact + 'static, R: Wait> Handle<D, R> {
         stop
     }
 
-    /// The operation that comes next is called so where the run is told, as is what it makes: `handle.named("count").atomic(0)`
+    /// The operation that comes next is called so where the run is explained, as is what it makes: `handle.named("count").atomic(0)`
     /// (own; in loom objects have no names). Of a name the first 24 bytes are kept, and a place that was given stays. It changes
     /// nothing that the operation does.
     pub fn named(&mut self, name: &str) -> &mut Self
@@ -117,7 +117,7 @@ impl<D: Exact + 'static, R: Wait> Handle<D, R> {
         self
     }
 
-    /// The operation that comes next stands in this line of the file: `handle.at("src/queue.rs", 12).load(..)` (own; loom's
+    /// The operation that comes next is in this line of the file: `handle.at("src/queue.rs", 12).load(..)` (own; loom's
     /// `track_caller`). Of the file's path the last 24 bytes are kept, and a name that was given stays. It changes nothing that the
     /// operation does.
     pub fn at(&mut self, file: &str, line: u32) -> &mut Self
@@ -181,7 +181,7 @@ impl<D: Exact + 'static, R: Wait> Handle<D, R> {
 }
 
 impl<D: Exact + 'static, R: Threads + Wait + Clone + Send + 'static> Handle<D, R> {
-    /// The handle of a thread with an empty told list.
+    /// The handle of a thread before its first operation.
     pub(crate) fn new(
         rt: R,
         alloc: Global,
@@ -281,7 +281,7 @@ impl<D: Exact + 'static, R: Threads + Wait + Clone + Send + 'static> Handle<D, R
 
     /// Ends the thread by its closure's answer: hands over its result, `exit` and `end`, or for a stop `fail`, unless a call was
     /// answered by a stop already. Then it leaves the run. Main answers the told lists of all threads, once they have left, its own
-    /// first, and another thread its own. The threads that it started are put into `ending`, and those that stood there are joined
+    /// first, and another thread its own. The threads that it started are put into `ending`, and those that were there are joined
     /// (own). `Memory` where a call was refused memory, or the closure's answer is that: then the run is given up, and nothing is
     /// handed over. `Refused` where a thread was refused.
     pub fn close(
@@ -324,7 +324,7 @@ impl<D: Exact + 'static, R: Threads + Wait + Clone + Send + 'static> Handle<D, R
         shared::end(&self.rt, &self.shared);
     }
 
-    /// Leaves the run, main once the others have left it. The threads that it started are put into `ending`, and those that stood there
+    /// Leaves the run, main once the others have left it. The threads that it started are put into `ending`, and those that were there
     /// are joined.
     pub(crate) fn leave(self, ending: &mut Children) -> Result<Vec<Told<D>>, RunnerError>
         ensures told { IfOk result (λ all. Leading self.thread all.items (λ es. es ≡ self.told)) }
@@ -413,5 +413,3 @@ fn gather<D: Drop>(
     }
     Ok(all)
 }
-
-// Short forms of `Handle::ask`, by the kind of object.

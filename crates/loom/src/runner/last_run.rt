@@ -1,4 +1,4 @@
-//! What a check keeps of a run for the next one, and where the next one isn't like it: a closure that is told the same does the same.
+//! What a check keeps of a run for the next one, and where the next one isn't like it: a closure that gets the same replies does the same.
 ghost use Rattle.std.specs.Prelude.{◌≡◌, ◌≤◌, ◌<◌, ◌↔◌, ℕ, [], IfErr, IfOk, IsTrue, MatchOption, length, true, false};
 ghost use Rattle.loom.specs.Runner.Alike.{Agree, Differ, IsSame, Shares, trace};
 ghost use Rattle.loom.specs.Runner.Comparing.{IsChangeAt, IsLike, IsOther, IsParted, IsRefusedOrSays, Passes};

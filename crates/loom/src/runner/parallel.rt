@@ -6,6 +6,7 @@ pub(crate) mod round;
 pub mod texts;
 pub(crate) mod turn_clock;
 pub mod visitors;
+pub mod walking;
 
 ghost use Rattle.std.specs.Prelude.{◌≡◌, ◌≤◌, [], Err, IfErr, IfOk, IfSome};
 ghost use Rattle.loom_engine.specs.Path.Route.{settings};
@@ -75,7 +76,7 @@ pub enum Found {
     Complete {
         runs: u64,
     },
-    /// A limit was reached. What is left stands in the list.
+    /// A limit was reached. What is left is in the list.
     Stopped {
         runs: u64,
         limit: Limit,

@@ -1,4 +1,4 @@
-//! Checks of recorded closures: what each thread answers is kept by what it was told, and a run whose answers are all known is made
+//! Checks of recorded closures: what each thread answers is kept by the replies to it so far, and a run whose answers are all known is made
 //! without a thread of the host.
 ghost use Rattle.std.specs.Prelude.{◌≡◌, IfErr, IfOk};
 ghost use Rattle.std.specs.Fn.{CalledAtMut};
@@ -36,10 +36,10 @@ use std::thread::Threads;
 pub use workers::check_parallel_recorded;
 
 /// A check of a closure each of whose threads does what rests on nothing but the replies to it (own). What `check_with` does, by fewer
-/// threads of the host: what a thread hands over is recorded, and where all that a run comes to is, the run is made of that. So the
+/// threads of the host: what a thread hands over is recorded, and where all that a run needs is, the run is made of that. So the
 /// closure is called far more seldom than runs are made, mostly at the beginning.
 ///
-/// A thread that is told the same and hands over another operation than before, in one of the runs that are made of the closure, is
+/// A thread that hands over another operation than before after the same replies, in one of the runs that are made of the closure, is
 /// `Changed`. Where half a million answers are recorded they are let go, and recorded again as they come. The errors besides are those of
 /// `check_with`.
 pub fn check_recorded<

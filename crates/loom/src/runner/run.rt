@@ -28,8 +28,8 @@ use std::sync::{Arc, Wait};
 use std::thread::Threads;
 
 /// Makes a run of the closure that begins with the path, and gives it to the visitor if it ends without a failure (own). `Memory` and
-/// `Refused` where a growth or a thread was refused, `NotSettled` where the run's end isn't settled: mostly where the threads' told
-/// lists aren't those of its history.
+/// `Refused` where a growth or a thread was refused, `NotSettled` where the run's end isn't settled: mostly where the threads'
+/// operations and replies aren't those of its history.
 pub fn make_run<
     D: Exact + 'static,
     R: Threads + Wait + Clone + Send + 'static,
@@ -130,7 +130,7 @@ pub(crate) fn call_closure<
     told
 }
 
-/// `call_closure`, but that the threads that main has started are put into `ending`, and those that stood there are joined.
+/// `call_closure`, but that the threads that main has started are put into `ending`, and those that were there are joined.
 pub(crate) fn call_main<
     D: Exact + 'static,
     R: Threads + Wait + Clone + Send + 'static,
@@ -164,7 +164,7 @@ fn put_in_order<D>(told: &mut Vec<Told<D>>)
     }
 }
 
-/// Where the list of the thread stands, from its own place on; or its own place, where it stands nowhere.
+/// Where the list of the thread is, from its own place on; or its own place, where it is nowhere.
 fn place_of<D>(told: &[Told<D>], thread: usize) -> usize
     requires { thread < length told.now }
     ensures from { thread ≤ result }

@@ -10,7 +10,7 @@ use loom_objects::failure::Failure;
 pub enum RunEnd {
     /// It failed, under these choices.
     Failed(Failure, Vec<Choice>),
-    /// It came to main's result. The next run begins with this path, if there is one.
+    /// It ended with main's result. The next run begins with this path, if there is one.
     Ended(Option<Path>),
 }
 

@@ -173,7 +173,7 @@ fn share_turns<D: Exact + 'static>(
     }
 }
 
-/// Main's handle, with an empty told list (own). `Memory` where a growth was refused.
+/// Main's handle before its first operation (own). `Memory` where a growth was refused.
 pub fn main_handle<D: Exact + 'static, R: Threads + Wait + Clone + Send + 'static>(
     rt: &R,
     alloc: Global,
@@ -185,7 +185,7 @@ pub fn main_handle<D: Exact + 'static, R: Threads + Wait + Clone + Send + 'stati
     handle_of(rt, alloc, shared, 0)
 }
 
-/// The thread's handle, with an empty told list. `Memory` where a growth was refused.
+/// The thread's handle before its first operation. `Memory` where a growth was refused.
 fn handle_of<D: Exact + 'static, R: Threads + Wait + Clone + Send + 'static>(
     rt: &R,
     alloc: Global,
@@ -207,8 +207,9 @@ fn handle_of<D: Exact + 'static, R: Threads + Wait + Clone + Send + 'static>(
 /// What the threads of a run share: the state of the run, and where each of them waits for its turn.
 #[derive(Drop)]
 pub struct Shared<D> {
+    /// The state of the run.
     pub turns: Mutex<Turns<D>>,
-    // whose turn it is, or `ALL`, for threads that look before they sleep. What counts is what stands in `turns`.
+    // whose turn it is, or `ALL`, for threads that look before they sleep. What counts is what is in `turns`.
     shown: AtomicU64,
     looks: Looks,
     // where each thread sleeps, by its number
@@ -291,7 +292,7 @@ impl<D: Exact> Shared<D> {
         self.running.fetch_add(1, Ordering::SeqCst);
     }
 
-    /// A thread that was started leaves the run with these told lists, or with why it has none. It has handed over its last operation.
+    /// A thread that was started leaves the run with these lists, or with why it has none. It has handed over its last operation.
     fn leave<R: Wait>(&self, rt: &R, lists: Result<Vec<Told<D>>, RunnerError>) {
         let mut left = self.left.lock(rt);
         left.add(lists);

@@ -307,8 +307,8 @@ fn judge<D: Exact>(
     Ok(failing)
 }
 
-/// Whether the run began with this path and these limits, and followed it or drew its choices, as is said, and the told list of each
-/// thread is its part of the history.
+/// Whether the run began with this path and these limits, and followed it or drew its choices, as is said, and each thread's
+/// operations and replies are its part of the history.
 fn is_settled<D: Exact>(
     turns: &Turns<D>,
     is_drawn: bool,

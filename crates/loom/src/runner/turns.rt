@@ -77,7 +77,7 @@ impl<D: Exact> Turns<D> {
         Turns::begin(alloc, path, limits, None)
     }
 
-    /// The state before a run whose choices are drawn as it comes to them, within these limits. The path has no node, and no choice that
+    /// The state before a run whose choices are drawn as it reaches them, within these limits. The path has no node, and no choice that
     /// is given (own).
     pub(crate) fn drawn(
         alloc: Global,
@@ -313,7 +313,7 @@ impl<D: Exact> Turns<D> {
     }
 
     /// A thread that goes on although the run has stopped: a thousand of its calls were answered by the same stop as one before
-    /// them. It is told once (own).
+    /// them. It is reported once (own).
     pub fn goes_on(&mut self) -> Option<u8>
         ensures { self.new ≡ self.old }
     {
@@ -359,8 +359,8 @@ impl<D: Exact> Turns<D> {
         }
     }
 
-    /// Whether the run began with this path and these limits and followed its path, and the told list of each thread is its part of
-    /// the history (own).
+    /// Whether the run began with this path and these limits and followed its path, and each thread's operations and replies
+    /// are its part of the history (own).
     pub fn settle(&self, began: &Path, limits: Limits, told: &[Told<D>]) -> bool
         ensures { IsTrue result ↔ Settles self.now began.now limits told.now }
     {
@@ -370,8 +370,8 @@ impl<D: Exact> Turns<D> {
             && are_shares(told, &self.history)
     }
 
-    /// Whether the run began with this path and these limits and drew its choices, and the told list of each thread is its part of the
-    /// history (own).
+    /// Whether the run began with this path and these limits and drew its choices, and each thread's operations and replies are
+    /// its part of the history (own).
     pub fn settle_drawn(&self, began: &Path, limits: Limits, told: &[Told<D>]) -> bool
         ensures { IsTrue result ↔ SettlesDrawn self.now began.now limits told.now }
     {

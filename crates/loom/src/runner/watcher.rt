@@ -14,9 +14,9 @@ use std::time::Duration;
 /// What a check tells its log of each run, and the thread that looks at the run meanwhile (own).
 #[derive(Drop)]
 pub struct Watcher<D, L> {
-    // where something is to be told
+    // where something is to be logged
     log: Option<L>,
-    // whether each thread that goes on is told
+    // whether each thread that goes on is logged
     switches: bool,
     looking: Option<Looking<D>>,
 }
@@ -47,7 +47,7 @@ enum Shown<D> {
 }
 
 impl<D, L> Watcher<D, L> {
-    /// Nothing is told, and nobody looks (own).
+    /// Nothing is logged, and nobody looks (own).
     pub(crate) fn none() -> Watcher<D, L> {
         Watcher {
             log: None,

@@ -1,4 +1,4 @@
-//! What is told of a run of closures, with their data: whole texts.
+//! Explanations of runs of closures, with their data: whole texts.
 use crate::asserting::same;
 use crate::closures::{Count, holds};
 use crate::texts;
@@ -27,7 +27,7 @@ enum Scene {
 }
 
 impl Scene {
-    /// The choices of the run, and what is told of it.
+    /// The choices of the run, and its explanation.
     fn told(self) -> (&'static str, &'static str) {
         match self {
             Scene::Race => ("t0 t1 t1 l1", texts::closures_race::TEXT),
@@ -159,7 +159,7 @@ fn misuse<R: Wait>(handle: &mut Handle<u64, R>) -> Result<u64, Stop> {
     Ok(0)
 }
 
-/// What is told of the scene's run is its text.
+/// The explanation of the scene's run is its text.
 fn is_told<R: Abort + AllocGlobal + Threads + Wait + Clone + Send + 'static>(
     rt: &R,
     scene: Scene,

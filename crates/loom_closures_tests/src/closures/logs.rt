@@ -1,4 +1,4 @@
-//! What the log of a check of closures is told, while it runs and behind each run.
+//! What is in the log of a check of closures, while it runs and behind each run.
 use crate::asserting::same;
 use crate::closures::holds;
 use crate::closures::resumed::{is_complete, is_stopped};
@@ -46,7 +46,7 @@ impl<R: Wait> Kept<R> {
         self.lines.lock(&self.rt).as_slice().len() > 1
     }
 
-    /// Puts what it was told on the page.
+    /// Puts its lines on the page.
     fn put(&self, page: &mut Page) {
         for line in self.lines.lock(&self.rt).as_slice() {
             page.put("", line);
@@ -97,7 +97,7 @@ impl loom::Clock for Ticking {
     }
 }
 
-/// Puts on the page what a check of locks beside a thread comes to by these settings. It saves before each second run.
+/// Puts on the page what a check of locks beside a thread finds by these settings. It saves before each second run.
 fn put_check<R: Host, L: Log + Clone + Send + 'static>(
     rt: &R,
     builder: &Builder,

@@ -115,6 +115,9 @@ const NO_SPLIT: &str =
 const ONE_COVERS: &str =
     "usage: loom_rows NAME [FILE]\nerror: one worker covers a row of closures\n\nFor the options try '--help', and for the names '--list'.\n";
 
+const ONE_WALKS: &str =
+    "usage: loom_rows NAME [FILE]\nerror: one worker walks through a row of closures\n\nFor the options try '--help', and for the names '--list'.\n";
+
 const NO_SNAPSHOTS: &str =
     "usage: loom_rows NAME [FILE]\nerror: '--snapshots' isn't for rows of closures\n\nFor the options try '--help', and for the names '--list'.\n";
 
@@ -127,7 +130,7 @@ struct Said {
     status: u8,
 }
 
-static SAID: [Said; 21] = [
+static SAID: [Said; 22] = [
     Said {
         words: &["--explain", "relaxed_ring_closures"],
         out: texts::relaxed_ring_closures::TEXT,
@@ -254,6 +257,19 @@ static SAID: [Said; 21] = [
         status: 0,
     },
     Said {
+        words: &[
+            "--walk",
+            "1",
+            "100",
+            "--jobs",
+            "2",
+            "store_buffering_closures",
+        ],
+        out: "",
+        err: ONE_WALKS,
+        status: 2,
+    },
+    Said {
         words: &["--walk", "1", "100", "--walk-depth", "3", "closure_stops"],
         out: "failed 1 0 0\n",
         err: "",
@@ -279,7 +295,7 @@ fn is_said<R: Host + Clock + Sync>(rt: &R, said: &Said) -> io::Result<bool> {
     )
 }
 
-/// A row of closures takes the options that any other row takes, but `--cover` beside `--jobs`. By `--cover` it prints what the body of the
+/// A row of closures takes the options that any other row takes, but `--cover` and `--walk` beside `--jobs`. By `--cover` it prints what the body of the
 /// same name does.
 #[test]
 fn rows_take_all_options(rt: HostRuntime) -> Result<(), Fail> {

@@ -1,4 +1,4 @@
-//! What is told of closures that do what the body `assertion` does, with their data.
+//! The explanation of closures that do what the body `assertion` does, with their data.
 pub const TEXT: &str = r#"failed: assertion, at event 12
   an assertion of thread 0 failed ("the count is 2")
   it came there by the reply to its operation at event 11

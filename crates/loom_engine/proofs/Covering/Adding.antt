@@ -228,7 +228,7 @@ table_none never key left known same = record { same = same; kept = record { cou
 pub found_first : {X : Type 0} (xs ys : List X) (k : ℕ) (x : X) → slice_get xs k ≡ Some x → slice_get (xs ++ ys) k ≡ Some x
 found_first = got_front
 
--- what the second has stands behind the first, if a number counts so far
+-- what the second has is behind the first, if a number counts so far
 pub found_behind : {X : Type 0} (xs ys : List X) (n k : ℕ) (x : X) (P : Type 0) (found : Option ℕ) → n ≡ length xs → slice_get ys k ≡ Some x → SomeIff found P (n + k) → IfSome found (λ number. slice_get (xs ++ ys) number ≡ Some x)
 found_behind xs ys n k x P None size at is = tt
 found_behind xs ys n k x P (Some number) size at (few, is) = got_on xs ys k number x (is ∙ ap (λ (m : ℕ). m + k) size) at

@@ -109,7 +109,7 @@ module _ (limits : FailureKind → Bool) where
 
 -- ---- ways through a tree
 
--- by these choices, each an option where it comes, the tree comes to this one
+-- by these choices, each an option where it comes, the tree leads to this one
 abbrev pub Leads : {A : Type 0} → Tree A → List Choice → Tree A → Type 0
 Leads t [] r = t ≡ r
 Leads (Gives a) (o ∷ c) r = ⊥

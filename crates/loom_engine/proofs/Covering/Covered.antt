@@ -1,4 +1,4 @@
--- Runs that try each option, and end or come to a state that was noted, cover each run.
+-- Runs that try each option, and end or meet a state that was noted, cover each run.
 use Rattle.std.proofs.Common.{◌≡◌, ◌⊎◌, Bool, true, false, List, [], ◌∷◌, ◌++◌, Option, Some, None, Result, Ok, Err, refl, ap, sym, ◌∙◌, subst, inl, inr, append_assoc, append-nil}
 use Rattle.loom_objects.specs.declared.choice.Choice.{Choice}
 use Rattle.loom_objects.specs.Tree.Question.{Made, Among}

@@ -96,7 +96,7 @@ module _ {A : Type 0} (stop : List Choice → Bool) where
       uncut true g a k ih = absurd (cc g)
       uncut false g a k ih = under (among x (made_of question).options) h ih
 
-  -- what a run through it comes to: what one through the tree does, or it was cut off
+  -- how a run through it ends: as one through the tree does, or cut off
   abbrev pub Comes : ℕ → Tree A → List Choice → List Choice → Result (Option A) FailureKind → Type 0
   Comes room tree c d (Ok (Some value)) = outcome room tree d ≡ Some (Ok value)
   Comes room tree c d (Ok None) = stop (c ++ d) ≡ true

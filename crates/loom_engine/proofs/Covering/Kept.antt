@@ -1,4 +1,4 @@
--- What is kept of a run that stands at a branch point tells its state.
+-- What is kept of a run at a branch point tells its state.
 use Rattle.std.proofs.Common.{◌≡◌, ◌⊎◌, ℕ, Bool, true, false, zero, suc, arith, List, [], ◌∷◌, length, Some, refl, ap, sym, ◌∙◌, subst}
 use Rattle.std.specs.List.{Contains}
 use Rattle.std.specs.Prelude.{slice_get}
@@ -105,7 +105,7 @@ is_state_in {D} {S} never kept run bodies views has order yielded count same =
     six ∙ ap (λ (n : ℕ). record kept { threads = s.threads; objects = s.objects; views = views; lazies = s.lazies; max_threads = s.max_threads; yields = y; ordered = n }) count in
     seven ∙ ap (λ (l : List S). let k : Kept D S = record kept { threads = s.threads; objects = s.objects; views = views; lazies = s.lazies; max_threads = s.max_threads; yields = y; ordered = length run.dependence.threads; bodies = l } in k) same
 
--- a list has what stands at one of its places
+-- a list has what is at one of its places
 pub has_at : {X : Type 0} (xs : List X) (k : ℕ) (x : X) → slice_get xs k ≡ Some x → Contains xs x
 has_at [] k x e = absurd (cc e)
 has_at (y ∷ xs) zero x e = (0, omega arith, cc e)

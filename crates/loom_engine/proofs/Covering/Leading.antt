@@ -17,7 +17,7 @@ module _ {A K : Type 0} (w : World A) (key : List Choice → K) (left : List (Li
   -- ---- what is reached
 
   module _ (ways : List Way) (made : AreMade w key left runs led_by ways) where
-    -- the choices by which a run came to a state, and those before a way
+    -- the choices that led a run to a state, and those before a way
     same_there : (n : ℕ) (c : List Choice) (to : List Choice) (way : Way) (passes : Passes led_by to way.from) → slice_get led_by n ≡ Some c → way.from ≡ n → passes.there ≡ c
     same_there n c to way passes at from =
         let here : slice_get led_by n ≡ Some passes.there = subst (λ (k : ℕ). slice_get led_by k ≡ Some passes.there) from passes.led in cc (here, at)

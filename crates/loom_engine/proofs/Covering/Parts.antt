@@ -29,7 +29,7 @@ use Rattle.loom_engine.specs.Covering.Moments.{Moment, Next, settled}
 use Rattle.loom_engine.specs.Covering.Parts.{BegunLaw, LeadsOn}
 use Rattle.loom_engine.proofs.Covering.Then.{GoesOn, Passes, answers_on}
 
--- ---- what a path comes to
+-- ---- a path's outcome
 
 pub same_value : {X : Type 0} (a b : X) (p q : Trail) → ◌≡◌ {A = Result X FailureKind × Trail} (Ok a, p) (Ok b, q) → a ≡ b
 same_value {X} a b p q e = let f : ◌≡◌ {A = Result X FailureKind} (Ok a) (Ok b) = ap (λ (d : Result X FailureKind × Trail). d.0) e in cc f

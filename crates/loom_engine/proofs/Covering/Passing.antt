@@ -35,8 +35,8 @@ module _ {A K : Type 0} (w : World A) (key : List Choice → K) where
   abbrev pub LeadsAll : List (List Stored) → List (List Choice × A) → List (List Choice) → List Way → List Stored → Type 0
   LeadsAll left runs led_by ways q = (to : Option ℕ) × ComesTo w key left runs led_by q to × ((n : ℕ) → Passes led_by (choices q) n → Leads ways (length led_by) to n)
 
-  -- Between two runs: the choices that runs made are those before a node of the path that comes next, or off; so are those by which states
-  -- were come to, of which those on the path are known to be passed.
+  -- Between two runs: the choices that runs made are those before a node of the path that comes next, or off; so are those that led to
+  -- states, of which those on the path are known to be passed.
   pub record Passed (p : List Stored) (left : List (List Stored)) (runs : List (List Choice × A)) (led_by : List (List Choice)) (tracks : Tracks) : Type 0 where
     pub made : (q : List Stored) → IsOneOf q left → (c rest : List Choice) → choices q ≡ c ++ rest → HasNode p c ⊎ IsOff p c
     pub noted : (n : ℕ) (c : List Choice) → slice_get led_by n ≡ Some c → (Contains tracks.passed n × HasNode p c) ⊎ IsOff p c

@@ -53,7 +53,7 @@ module _ {D V : Type 0} (limits : FailureKind → Bool) (seen : Points → V) (s
   abbrev pub Like : World D → World D → Type 0
   Like w v = (q : Points) × (k : ℕ) × (y : List ℕ) × SeenSame w q y × (v ≡ with_other q k y w)
 
-  -- both answer the same, and come to states that are like each other
+  -- both answer the same, and lead to states that are like each other
   abbrev pub Follows : {A : Type 0} → Result (A × World D) FailureKind → Result (A × World D) FailureKind → Type 0
   Follows r s = AreAlike limits (BothAlike Like) (came r) (came s)
 
@@ -214,7 +214,7 @@ module _ {D V : Type 0} (limits : FailureKind → Bool) (seen : Points → V) (s
     reads_so (atomic_op.WithMut n) slot w q k y e = inl refl
     reads_so (atomic_op.WithMutEnd n value) slot w q k y e = inl refl
 
-    -- the active thread is told the reply
+    -- the active thread gets the reply
     pub replied_so : (r s : Result (Reply D × World D) FailureKind) → Follows r s → Follows (r >>= replied) (s >>= replied)
     replied_so r s h = answer_then r s replied replied h (λ answer u p j z f. (refl, (_, _, _, f, refl)))
 

@@ -106,7 +106,7 @@ module _ (limits : FailureKind → Bool) (are : AreLimits limits) where
     abbrev Courses : Course D → Course D → Type 0
     Courses c d = CoursesAlike limits Alike c d
 
-    -- what a run comes to next is the same: the same result, or the same state
+    -- what comes next in a run is the same: the same result, or the same state
     abbrev pub NextAlike : {S : Type 0} → Next D S → Next D S → Type 0
     NextAlike (RunEnds value) (RunEnds other) = value ≡ other
     NextAlike (RunEnds value) (Stands n) = ⊥

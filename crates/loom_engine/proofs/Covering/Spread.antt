@@ -97,7 +97,7 @@ follows p q l = go (ends_in (choices p))
         let b = node_chooses q f k.0 k.1 in
         (b.0, b.1 ∙ ap (λ u. f ++ u ∷ b.0) (k.3 ∙ z.2) ∙ sym (snoc_append f c b.0) ∙ ap (λ t. t ++ b.0) (sym e))
 
--- a node that the path didn't have stands past it
+-- a node that the path didn't have is past it
 past_path : (p q : List Stored) → Begins (choices p) (choices q) → (before : List Choice) (n : Stored) → node_at q before ≡ Some n → node_at p before ≡ None → (f : List Choice) × (before ≡ choices p ++ f)
 past_path p q g before n at none = go (two_beginnings (choices p) g.0 before n.present z.0 (sym g.1 ∙ z.1))
   where

@@ -40,8 +40,8 @@ placed_end [] (suc i) n h l = absurd (omega (arith, l))
 placed_end (x ∷ xs) zero n h l = absurd (cc h)
 placed_end (x ∷ xs) (suc i) n h l = node_on x (xs ++ n ∷ []) x.present (choices (take i xs)) refl ∙ placed_end xs i n h (omega arith)
 
--- The path has passed one choice more, at a node that stands where it was, and is passed no further than it goes. What stood in
--- it stands there still.
+-- The path has passed one choice more, at a node that is where it was, and is passed no further than it goes. What was in
+-- it is there still.
 pub record Passes (path : Trail) (choice : Choice) (mid : Trail) : Type 0 where
   pub choices : passed mid ≡ passed path ++ choice ∷ []
   pub within : mid.position ≤ length mid.nodes

@@ -106,7 +106,7 @@ module _ {D S : Type 0} (next : Meaning D S) where
       abbrev at : ℕ → Course D → Moment D S
       at more c = record { bodies = bodies; course = c; more = more; left = left }
 
-      -- the first schedule has come to a turn
+      -- the first schedule has led to a turn
       turned_on : (more : ℕ) (c : Course D) (path : Trail) (turn : Turn D) (v : Course D) (mid : Trail) → (turn, v) ≡ came_to → mid ≡ after
           → Over (passed.Turn turn, v) ⊎ LeadsOn next (Some (at more c)) [] (passes c) (gone_on next (at more c)) path (passed.Turn turn, v) mid → IsEnded came_to.0 ⊎ TurnsOn next (at more c) path came_to after
       turned_on more c path turn v mid is there (inl h) = inl (subst (λ (t : Turn D × Course D). IsEnded t.0) is h)

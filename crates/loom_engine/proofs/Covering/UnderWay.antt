@@ -1,4 +1,4 @@
--- A run of a body with a table of states, from turn to turn, and what it comes to.
+-- A run of a body with a table of states, from turn to turn, and its outcome.
 use Rattle.std.proofs.Common.{◌≡◌, ◌<◌, ◌≤◌, ◌⊎◌, ℕ, zero, suc, arith, length-append, Bool, true, false, List, [], ◌∷◌, ◌++◌, length, take, Option, Some, None, Ok, Err, refl, ap, ap₂, sym, ◌∙◌, subst, inl, inr}
 use Rattle.std.specs.Prelude.{map, slice_get, slice_set}
 use Rattle.std.specs.List.{Contains}
@@ -236,7 +236,7 @@ module _ {D S : Type 0} (room : ℕ) (adds : Marking) (next : Meaning D S) (expl
   pub turn_begins : AtTurn (at_start p) (suc max_steps) (body ∷ []) (opening explores max_threads max_steps) 0 reply.Start
   turn_begins = record { last = None; since = []; way = way_begins room adds next tree (first_stand next explores max_threads max_steps body) p _ refl; led = none }
 
-  -- ---- a run that goes on from where another one stood
+  -- ---- a run that goes on from where another one was
 
   same_choices_begin : (front q : List Stored) → BeginsWith front q → choices (take (length front) q) ≡ choices front
   same_choices_begin [] q b = refl
@@ -299,7 +299,7 @@ module _ {D S : Type 0} (room : ℕ) (adds : Marking) (next : Meaning D S) (expl
         ∙ ap (λ (x : S × Op D S). handing (to_schedule next left) left bodies c thread x) (sym step)
         ∙ handing_law (to_schedule next left) left bodies c thread after op
 
-    -- the thread is told the reply, and its body hands over an operation
+    -- the thread gets the reply, and its body hands over an operation
     pub hands_over : (path : Trail) → AtTurn path (suc left) bodies c thread answer → IsHanding path left (slice_set bodies thread after) c op
     hands_over path at = record {
       last = at.last;
@@ -416,7 +416,7 @@ module _ {D S : Type 0} (room : ℕ) (adds : Marking) (next : Meaning D S) (expl
     pub keeps_on : (came : Turn D × Course D) (end : Trail) → drive (whole_search room) adds (schedule further_branches c) path ≡ (Ok came, end) → BeginsWith path.nodes end.nodes
     keeps_on came end e = (keeps room adds came end (schedule further_branches c) path at.way.within e).kept
 
-    -- the path keeps its nodes, and has one where it stood
+    -- the path keeps its nodes, and has one where it was
     pub stays_on : (came : Turn D × Course D) (end : Trail) → drive (whole_search room) adds (schedule further_branches c) path ≡ (Ok came, end) → StayThere path end
     stays_on came end e = (nodes_law {A = Turn D × Course D} room adds).stay (schedule further_branches c) path end came at.way.within e
 
@@ -481,7 +481,7 @@ module _ {D S : Type 0} (room : ℕ) (adds : Marking) (next : Meaning D S) (expl
           by false h = h
           by true h = absurd (none_here n (ap (λ (d : List Choice). node_at path.nodes d) (it_was (passed path) b h) ∙ at.way.stays b n e))
 
-      -- a run that has come to a state that was noted
+      -- a run that has met a state that was noted
       module _ (noted : Noted D S) (tables : Tables noted path) (run : Progress D) (route : Route) (views : Views) (shown : ShowsCourse c run route) (order : IsInOrder run.state.scene.views views) (is_exploring : c.exploring ≡ On) (number : ℕ)
           (has : slice_get noted.states number ≡ Some (state_in noted.never run bodies views)) where
         led : (d : List Choice) × (slice_get noted.led_by number ≡ Some d) × IsKeptOf old.never (state_in old.never run bodies views) (key d)

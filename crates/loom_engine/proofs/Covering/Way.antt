@@ -1,4 +1,4 @@
--- A path on its way through a tree that may be cut: what it comes to there is what the whole run comes to.
+-- A path on its way through a tree that may be cut: its outcome there is the whole run's.
 use Rattle.std.proofs.Common.{◌≡◌, ◌≤◌, ◌⊎◌, ℕ, arith, Bool, true, false, cond, List, [], ◌∷◌, ◌++◌, length, take, Option, Some, None, Result, Ok, Err, refl, ap, sym, ◌∙◌, subst, inl, inr, append-nil, append_assoc}
 use Rattle.std.proofs.lemmas.List.{length-take-le}
 use Rattle.loom_views.specs.declared.rt.failure.FailureKind.{FailureKind}

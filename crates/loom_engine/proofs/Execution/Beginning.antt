@@ -1,4 +1,4 @@
--- An operation up to its branch point along a path, from what the machine's steps come to.
+-- An operation up to its branch point along a path, from what the machine's steps do.
 use Rattle.std.proofs.Common.{◌≡◌, ℕ, ◌+◌, arith, suc, Option, None, Bool, ap, refl, sym, ◌∙◌, subst}
 use Rattle.std.specs.Prelude.{Result, Ok, Err, ⊤}
 use Rattle.loom_objects.specs.declared.choice.Choice.TheVariants.{Spurious}
@@ -34,7 +34,7 @@ plus_one : (n : ℕ) → n + 1 ≡ suc n
 plus_one n = omega arith
 
 module _ {D : Type 0} where
-  -- it has come to its next turn at once
+  -- it has its next turn at once
   abbrev pub begun_with : Result (Turn D) Stop → Result (Begun D) Stop
   begun_with (Ok turn) = Ok (begun.Turn turn)
   begun_with (Err stop) = Err stop

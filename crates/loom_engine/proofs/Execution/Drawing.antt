@@ -135,7 +135,7 @@ module _ {D : Type 0} where
   -- ---- schedules up to a turn
 
   module _ (more : ℕ) (old : Progress D) (path : Route) where
-    -- what the schedules that are left come to is what all come to, along each path that was given what the run has made so far
+    -- the schedules that are left end as all do, along each path that was given what the run has made so far
     abbrev pub IsLeftDrawn : ℕ → Progress D → Route → Type 0
     IsLeftDrawn left run here = (given : List Choice) → Begins (chosen here) given → IsLeft more old (led_by given path) left run (led_by given here)
 

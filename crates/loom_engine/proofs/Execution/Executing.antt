@@ -1,4 +1,4 @@
--- Schedules along a path, from what the chosen threads come to.
+-- Schedules along a path, from what the chosen threads do.
 use Rattle.std.proofs.Common.{◌≡◌, ◌+◌, ◌-◌, ◌<◌, length, ℕ, zero, suc, Bool, true, false, List, [], ◌∷◌, ap, ap₂, refl, sym, ◌∙◌, subst, arith}
 use Rattle.std.specs.Result.{is_err}
 use Rattle.std.specs.Prelude.{◌&&◌, cond, is_ok, IfErr, nat_lt, slice_get, Option, Some, None, Result, Ok, Err, ⊤}
@@ -335,7 +335,7 @@ module _ {D : Type 0} where
 
   -- ---- what a chosen thread has pending
 
-  -- it comes to something without a question, or fails
+  -- it gives something without a question, or fails
   pub takes_at_once : (t : ℕ) (old new : Progress D) (path : Route) (result : Result (Passed D) Stop)
       → ((exploring : Bool) (w : World D) → Shows w old.state → world_comes (resumes exploring t w) result new.state) → new.dependence ≡ old.dependence → Along (takes_turn t) old path result new path
   takes_at_once t old new path (Ok passed) does kept c shown =
@@ -419,7 +419,7 @@ module _ {D : Type 0} where
           ∙ ap (λ (tree : Tree (⊤ × World D)). drives (carried (one_passed c) tree >>= (λ after. schedule further_branches after.1)) via) (does c.world shown.world)
       wait_stops Memory mid does c shown = tt
 
-      -- the course that the wait comes to
+      -- the course that the wait leads to
       pub waiting : (mid : Progress D) → ((w : World D) → Shows w old.state → world_comes (enters_wait is_spurious n w) (Ok tt) mid.state) → mid.dependence ≡ old.dependence
           → (c : Course D) → ShowsCourse c old path → (v : Course D) × ShowsCourse v mid via × (drives (is_asked n c) path ≡ drives (schedule further_branches v) via)
       waiting mid does kept c shown =
@@ -562,7 +562,7 @@ module _ {D : Type 0} where
       made_needs_memory op w entry come.0 (came_so (counted op w) (entry, come.0) come.2) (omega (arith, more, et, eo, xs, ys))
   start_refused op (Err stop) old state threads objects is does et eo more w shown = absurd (cc is)
 
-  -- what a course comes to with what an operation made
+  -- what a course becomes with what an operation made
   pub started_course : (op : Request D ⊤) (entry : Entry D) (old mid : Progress D) (path : Route) → Starts path.search.reduce op old (Ok entry) mid → (c : Course D) → ShowsCourse c old path
       → (v : Course D) × ShowsCourse v mid path × (drives (submit op c) path ≡ drives (goes_on (entry, v)) path)
   started_course op entry old mid path starts c shown =

@@ -218,7 +218,7 @@ module _ {D : Type 0} where
       needed_on itself (schedule more c) (passes c >>= further first.0) path path (ap (λ (t : Tree (Turn D × Course D)). drives t path) first.1) (omega arith)
       (needed_further first.0 (passes c) path (needs c shown))
 
-  -- when so many more branch points may come: what the schedules from here on come to is what all come to, and need
+  -- when so many more branch points may come: the schedules from here on end as all do, and need what all need
   pub record IsLeft (more : ℕ) (old : Progress D) (path : Route) (left : ℕ) (run : Progress D) (here : Route) : Type 0 where
     pub reaches : (c : Course D) → ShowsCourse c old path → (v : Course D) × ShowsCourse v run here × (drives (schedule more c) path ≡ drives (schedule left v) here)
         × (length path.nodes ≤ length here.nodes)

@@ -1,4 +1,4 @@
--- Nodes that stand where another one is asked for.
+-- Nodes that are where another one is asked for.
 use Rattle.std.proofs.Common.{◌≡◌, ◌≢◌, ℕ, Bool, true, List, Option, Some, ap, sym, subst}
 use Rattle.std.specs.Prelude.{slice_get, IsSomeAnd}
 use Rattle.loom_objects.specs.Tree.Asked.{which_thread}

@@ -88,7 +88,7 @@ module _ (m : Machine) (w : IsMachine m) (made issued : List (List Choice)) (Had
               let z = low_node before alt.chosen f i in
               absurd (out (barred r before o alt z.0 z.1 (low_tried r before o alt (alt.chosen, f, i) z.0 z.1)))
 
-  -- a node of the path stands along the base or above the floor
+  -- a node of the path is along the base or above the floor
   stands : (before : List Choice) (n : Stored) → node_at p before ≡ Some n → TwoBeginnings b before n.present
   stands before n g = let y = here.part.begins in let z = node_chooses p before n g in two_beginnings b y.0 before n.present z.0 (sym y.1 ∙ z.1)
 

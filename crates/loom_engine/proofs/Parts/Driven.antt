@@ -29,7 +29,7 @@ module _ {A : Type 0} (s : Settings) (adds : Marking) (tree : Tree A) (k : ℕ) 
   is : IsMachine (machine_of s adds tree)
   is = machine_law s adds tree sound fair
 
-  -- what a run along a path at rest came to, and how it left the path
+  -- the outcome of a run along a path at rest, and how it left the path
   pub record Ran (p : List Stored) (value : Result A FailureKind) (path : Trail) : Type 0 where
     pub leaves : path.nodes ≡ after_run m p
     pub is_run : choices path.nodes ≡ run_of m p

@@ -24,7 +24,7 @@ module _ (m : Machine) (w : IsMachine m) (made : List (List Choice)) (k : List C
   it_is_next : Done m made (record { base = k; path = p } ∷ parts) (run m k)
   it_is_next = is_path (record { base = k; path = p }) (inl refl) (ap (run m) (sym ends))
 
-  -- none of its nodes stands above its floor
+  -- none of its nodes is above its floor
   is_below : (before : List Choice) (n : Stored) → node_at p before ≡ Some n → IsBelow before k
   is_below before n g = let z = node_chooses p before n g in (n.present, z.0, sym ends ∙ z.1)
 

@@ -1,4 +1,4 @@
--- What holds of a search in parts, whatever it has come to.
+-- What always holds of a search in parts.
 use Rattle.std.proofs.Common.{◌≡◌, ◌⊎◌, true, List, [], ◌∷◌, ◌++◌, Some}
 use Rattle.loom_objects.specs.declared.choice.Choice.{Choice}
 use Rattle.loom_objects.specs.Tree.Question.{Made, Among}

@@ -109,7 +109,7 @@ branched [] k n later h = absurd (cc h)
 branched (x ∷ nodes) zero n later h = refl
 branched (x ∷ nodes) (suc k) n later h = ap (λ t. seen x ∷ t) (branched nodes k n later h)
 
--- a node that has just changed its choice stands at the end
+-- a node that has just changed its choice is at the end
 pub chosen_end : (nodes : List Node) (k : ℕ) (n : Node) (o : Choice) → slice_get nodes k ≡ Some n → branch_off k o (stored nodes) ≡ end_with k (choose (seen n) o) (stored nodes)
 chosen_end [] k n o h = absurd (cc h)
 chosen_end (x ∷ nodes) zero n o h = let e : x ≡ n = cc h in ap (λ (y : Node). choose (seen y) o ∷ []) e

@@ -1,4 +1,4 @@
--- What holds of a program's list of parts, whatever it has come to.
+-- What always holds of a program's list of parts.
 use Rattle.std.proofs.Common.{◌≡◌, ℕ, List, [], ◌∷◌, ◌++◌, Some, refl, ap, sym, subst, inl, inr}
 use Rattle.std.specs.Prelude.{slice_get}
 use Rattle.loom_engine.specs.declared.rt.parts.Part.{Part as Kept}

@@ -142,7 +142,7 @@ module _ (m : Machine) (w : IsMachine m) (b : List Choice) (p : List Stored) (is
       go (was_there n i f) = (n, i, f)
       go (is_new made i met f dr) = let z = low_node m b p issued notes h before low in absurd (cc (i, z.1))
 
-  -- what stands below the floor as to be tried is an alternative of the run, unless it stood there before
+  -- what is to be tried below the floor is an alternative of the run, unless it was there before
   only : (k : List Choice) → IsNotedIn b q k
       → Member k notes ⊎ ((before : List Choice) × (o : Choice) × (k ≡ before ++ o ∷ []) × IsBelow before b × (Member k issued ⊎ Alternative m r before o))
   only k i = go z.0 z.1 z.2

@@ -20,7 +20,7 @@ use Rattle.loom_engine.proofs.Parts.Rounds.{IsTriedStatus, run_in, sealed_after,
 module _ (m : Machine) (w : IsMachine m) (made issued : List (List Choice)) (Had : List Choice → Type 0) (b : List Choice) (p : List Stored) (here : Keeps m made issued Had b p)
     (q : List Stored) (r : List Choice) (a : IsAfter m p q r) (rest : IsResting m q)
     (next : List Stored) (branch : List Choice) (n : Stored) (o : Choice) (s : IsStep q next branch n o) where
-  -- the node that goes on stands above the floor
+  -- the node that goes on is above the floor
   pub branch_above : (f : List Choice) × (branch ≡ b ++ f)
   branch_above = go (two_beginnings b y.0 branch n.present z.0 (sym y.1 ∙ sym a.whole ∙ z.1))
     where

@@ -32,7 +32,7 @@ module _ (m : Machine) (w : IsMachine m) (made issued : List (List Choice)) (Had
   pub run_in : (e : List Choice) × (r ≡ b ++ e)
   run_in = let y = here.part.begins in (y.0 ++ run_on.0, run_on.1 ∙ ap (λ t. t ++ run_on.0) y.1 ∙ append_assoc b y.0 run_on.0)
 
-  -- the nodes along the base stand in the path
+  -- the nodes along the base are in the path
   along : (before : List Choice) → IsBelow before b → (n : Stored) × (node_at p before ≡ Some n)
   along before (c, e, i) =
       let y = here.part.begins in
@@ -53,7 +53,7 @@ module _ (m : Machine) (w : IsMachine m) (made issued : List (List Choice)) (Had
   pub part_after : IsPart m b q
   part_after = record { resting = rest; begins = (run_in.0, a.whole ∙ run_in.1); sealed = sealed_after }
 
-  -- a new node stands past the path
+  -- a new node is past the path
   past_path : (before : List Choice) (x : Stored) → node_at q before ≡ Some x → node_at p before ≡ None → (f : List Choice) × (before ≡ choices p ++ f)
   past_path before x h g = go (two_beginnings (choices p) run_on.0 before x.present z.0 (sym run_on.1 ∙ sym a.whole ∙ z.1))
     where

@@ -205,7 +205,7 @@ module _ (m : Machine) (made : List (List Choice)) (source : Part) (before : Lis
   older_parts q i =
       more_issued m q.base q.path issued notes ((before ++ o ∷ []) ∷ issued) less i (λ k j. inr j) (λ k j. elim ((without k).0 j) [ inl e ↦ inl (inl e) | inr e ↦ inr e ])
 
-  -- the nodes below the new part's floor stand below the old one
+  -- the nodes below the new part's floor are below the old one
   lower : (d : List Choice) → IsBelow d (before ++ o ∷ []) → IsBelow d source.base
   lower d (c, e, i) = go (last_option before o d c e i)
     where

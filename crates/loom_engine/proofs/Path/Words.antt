@@ -370,7 +370,7 @@ nodes_front [] (q ∷ ps) (suc i) h = absurd h
 nodes_front (v ∷ ws) [] (suc i) h = absurd h
 nodes_front (v ∷ ws) (q ∷ ps) (suc i) h = ap (λ (l : List Node). node_in v q ∷ l) (nodes_front ws ps i h.1)
 
--- ---- how much the parts of a node can come to
+-- ---- how large the parts of a node can be
 
 pub statuses_small : (l : List Status) → length l ≡ 5 → beside 3 (map status_number l) < 2 ^ 15
 statuses_small (a ∷ b ∷ c ∷ d ∷ g ∷ []) h = omega (arith, status_small a, status_small b, status_small c, status_small d, status_small g)
@@ -445,7 +445,7 @@ laid_choice (v ∷ ws) (p ∷ ps) (suc i) w x h l e c = laid_choice ws ps i w x 
 
 -- ---- what is seen to have nothing left to try
 
--- whatever stands beside a word, its node is well, or isn't
+-- whatever is beside a word, its node is well, or isn't
 well_kind : (k w : ℕ) (p q : Places) → IsWell (kind_in k w p) → IsWell (kind_in k w q)
 well_kind zero w p q h = h
 well_kind (suc zero) w p q h = h
@@ -465,14 +465,14 @@ laid_done (v ∷ ws) [] i w h l e d = absurd h
 laid_done (v ∷ ws) (p ∷ ps) zero w h l e d = ap (λ (k : ℕ). advance (seen (node_in k p))) (sym e) ∙ d p
 laid_done (v ∷ ws) (p ∷ ps) (suc i) w h l e d = laid_done ws ps i w h.1 (omega arith) e d
 
--- ---- the schedule that stands there
+-- ---- the schedule that is there
 
 schedule_of : (k w : ℕ) (p : Places) (n : Schedule) → kind_in k w p ≡ node.Schedule n → schedule_in w p ≡ n
 schedule_of zero w p n e = cc e
 schedule_of (suc zero) w p n e = absurd (cc e)
 schedule_of (suc (suc k)) w p n e = absurd (cc e)
 
--- what holds of its word, whatever stands beside that, holds of it
+-- what holds of its word, whatever is beside that, holds of it
 pub laid_schedule : (ws : List ℕ) (ps : List Places) (i w : ℕ) (n : Schedule) (A : Schedule → Type 0) → AreLaidOut ws ps → i < length ws → w ≡ get_or ws i w
     → slice_get (nodes_in ws ps) i ≡ Some (node.Schedule n) → ((p : Places) → A (schedule_in w p)) → A n
 laid_schedule [] ps i w n A h l e s a = absurd (omega arith)

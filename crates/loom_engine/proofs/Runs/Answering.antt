@@ -44,14 +44,14 @@ use Rattle.loom_objects.specs.Rules.Rule.{◌>>=◌, check}
 use Rattle.loom_engine.specs.Runs.Histories.{locked_by}
 use Rattle.loom_engine.proofs.Runs.Events.{Anything, IsOver}
 
--- it goes on: the active thread is told something, which is no data of a mutex
+-- it goes on: the active thread gets a reply, which is no data of a mutex
 abbrev pub GoesQuietly : {D : Type 0} → Passed D × World D → Type 0
 GoesQuietly (passed.Turn (turn.Reply t reply), w) = (t ≡ w.active) × (locked_by reply ≡ None)
 GoesQuietly (passed.Turn (turn.Start t), w) = ⊥
 GoesQuietly (passed.Turn (turn.Ended value), w) = ⊥
 GoesQuietly (passed.AtBranch, w) = Unit {0}
 
--- this holds of what it comes to
+-- this holds of what it gives
 abbrev pub Answers : {A : Type 0} → (A → Type 0) → Result A FailureKind → Type 0
 Answers P (Ok answered) = P answered
 Answers P (Err kind) = Unit {0}

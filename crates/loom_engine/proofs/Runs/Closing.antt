@@ -26,7 +26,7 @@ module _ {A B : Type 0} (P : A → Type 0) (Q : B → Type 0) (next : A → Tree
   closes_then (Asks question branches) h closes = λ o. closes_then (branches o) (h o) closes
 
 module _ {D : Type 0} where
-  -- main has come to its end
+  -- main has ended
   abbrev pub HasEnded : Turn D × Course D → Type 0
   HasEnded (turn, c) = IsEnded turn
 

@@ -1,4 +1,4 @@
--- What one operation that is handed over may come to.
+-- What one operation that is handed over may lead to.
 use Rattle.std.proofs.Common.{◌≡◌, ◌≢◌, Bool, true, false, Option, Some, None, subst}
 use Rattle.std.specs.Prelude.{⊤}
 use Rattle.loom_views.specs.declared.rt.failure.FailureKind.{FailureKind}
@@ -57,7 +57,7 @@ shut_then (Fails kind) next h = tt
 shut_then (Closes rest) next h = tt
 shut_then (Asks question branches) next h = absurd h
 
--- An event: it ends a run only where the run is over, and then asks nothing. Its questions are sound. By options it comes to no
+-- An event: it ends a run only where the run is over, and then asks nothing. Its questions are sound. By options it meets no
 -- failure that is a path's. Without a default no thread goes on.
 pub data EventOf {A : Type 0} (Goes Over : A → Type 0) : Tree A → Type 0 where
   goes : (value : A) → Goes value → EventOf Goes Over (Gives value)
@@ -86,7 +86,7 @@ module _ {A : Type 0} {Goes Over : A → Type 0} where
   check_event true kind next fair h = h
   check_event false kind next fair h = fails kind fair
 
--- an event, and from what it comes to another
+-- an event, and another from what it gives
 module _ {A B : Type 0} {Goes Over : A → Type 0} {Goes' Over' : B → Type 0} (next : A → Tree B) (onward : (a : A) → Goes a → EventOf Goes' Over' (next a)) (rests : (a : A) → Over a → Settles Over' (next a)) where
   stays_open : (tree : Tree A) → StaysOpen Goes tree → StaysOpen Goes' (tree >>= next)
   stays_open (Gives a) opens = event_open (next a) (onward a opens)
@@ -140,7 +140,7 @@ module _ {D W : Type 0} where
   abbrev pub IsEvent : Tree (Turn D × W) → Type 0
   IsEvent tree = EventOf IsGoing IsOver tree
 
-  -- a thread goes on, or one comes to another branch point
+  -- a thread goes on, or one reaches another branch point
   abbrev pub GoesOn : Passed D × W → Type 0
   GoesOn after = PassesOn after.0
 

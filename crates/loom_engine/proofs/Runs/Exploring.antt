@@ -42,7 +42,7 @@ use Rattle.loom_engine.proofs.Runs.Events.{Anything}
 use Rattle.loom_engine.proofs.Runs.Replies.{IsNoSwitch, Unswitched, unswitched}
 use Rattle.loom_engine.proofs.Runs.Kinds.{begins_unswitched}
 
--- whatever is chosen, each question explores, and of what it comes to this holds
+-- whatever is chosen, each question explores, and this holds of what the tree gives
 pub data Explores {A : Type 0} (P : A → Type 0) : Tree A → Type 0 where
   gives : (value : A) → P value → Explores P (Gives value)
   fails : (kind : FailureKind) → Explores P (Fails kind)

@@ -34,7 +34,7 @@ own_met kind own e = own (ap is_of_choices e)
 pub own_unequal : (kind : FailureKind) → IsOwn kind → kind ≢ OrdersEqual
 own_unequal kind own e = own (ap is_of_choices e)
 
--- this holds of what it comes to, and that of its failure
+-- this holds of what it gives, and that of its failure
 abbrev pub AnswersBy : {A : Type 0} → (FailureKind → Type 0) → (A → Type 0) → Result A FailureKind → Type 0
 AnswersBy F P (Ok answered) = P answered
 AnswersBy F P (Err kind) = F kind

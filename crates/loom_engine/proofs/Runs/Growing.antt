@@ -94,7 +94,7 @@ module _ {D : Type 0} (w : World D) where
   pub onward : {A B : Type 0} (r : Result B FailureKind) (next : B → Result (A × World D) FailureKind) → ((b : B) → Answers Stays (next b)) → Answers Stays (r >>= next)
   onward r next h = answers_then Stays r next h
 
-  -- it goes on from where a rule comes to
+  -- it goes on from where a rule leads
   pub from_there : {A B : Type 0} (r : Result (B × World D) FailureKind) (next : B × World D → Result (A × World D) FailureKind) → Answers Stays r
       → ((answered : B × World D) → Stays answered → Answers Stays (next answered)) → Answers Stays (r >>= next)
   from_there (Ok answered) next s h = h answered s

@@ -19,7 +19,7 @@ isnt_number None n h e = cc e
 isnt_number (Some m) n h e = let same : m ≡ n = cc e in let own : (n == n) ≡ true = eq-eqb n n refl in cc (h, same, own)
 
 module _ {D : Type 0} where
-  -- what an event comes to that doesn't give back the lock that is out
+  -- what an event leads to that doesn't give back the lock that is out
   abbrev pub Comes : Aim → Event D → Course D → Type 0
   Comes out event v = TurnTo out (event.turn, v.world) × ((n : ℕ) → opened_by event.op ≡ Some n → Taken out n v.world)
 

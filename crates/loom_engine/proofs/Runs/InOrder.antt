@@ -56,7 +56,7 @@ module _ {D : Type 0} (n : ℕ) where
   appended [] = refl
   appended (x ∷ xs) = ap (λ list. x ∷ list) (appended xs)
 
-  -- what an event comes to
+  -- what an event leads to
   stepped : (q : List D) (handed : ℕ → Option (ChannelOp D)) (a : ℕ) (c v : Course D) (event : Event D) → Bound n q handed a c.world
       → ((t : ℕ) → handed_by a event.op handed t ≡ Some (channel_op.DropReceiver n) → ⊥) → Happens c event v → IsAfter n q (handed_by a event.op handed) event.turn v.world
   stepped q handed a c v event k never comes =

@@ -1,4 +1,4 @@
--- What holds of every value that a tree comes to. And sound locks: more than exclusive ones, so that each operation keeps them.
+-- What holds of every value that a tree gives. And sound locks: more than exclusive ones, so that each operation keeps them.
 use Rattle.std.proofs.Common.{◌≡◌, ℕ, zero, suc, Bool, true, false, List, [], ◌∷◌, ◌++◌, Option, Some, None, refl, subst}
 use Rattle.std.specs.Prelude.{◌&&◌, not, is_some, slice_get, slice_set, ⊤}
 use Rattle.std.specs.List.{list_all}
@@ -15,7 +15,7 @@ use Rattle.loom_engine.specs.Runs.Histories.{ComesBy, is_exclusive}
 
 -- ---- trees
 
--- whatever is chosen, this holds of what it comes to
+-- whatever is chosen, this holds of what it gives
 pub data Keeps {A : Type 0} (P : A → Type 0) : Tree A → Type 0 where
   gives : (value : A) → P value → Keeps P (Gives value)
   fails : (kind : FailureKind) → Keeps P (Fails kind)
@@ -23,7 +23,7 @@ pub data Keeps {A : Type 0} (P : A → Type 0) : Tree A → Type 0 where
   asks : (question : Question) (branches : Choice → Tree A) → ((choice : Choice) → Keeps P (branches choice)) → Keeps P (Asks question branches)
 
 module _ {A : Type 0} {P : A → Type 0} where
-  -- so it holds of each value that the tree comes to by some choices
+  -- so it holds of each value that the tree gives by some choices
   pub kept_value : (tree : Tree A) (choices : List Choice) (a : A) → Keeps P tree → ComesBy tree choices a → P a
   kept_value tree [] a (gives value h) comes = subst P comes h
   kept_value tree (choice ∷ choices) a (gives value h) comes = absurd comes

@@ -94,7 +94,7 @@ module _ {D : Type 0} where
     pub each : (change : Thread D → Thread D) (w : World D) → ((thread : Thread D) → IsSame thread (change thread)) → R w → R (record w { threads = map change w.threads })
     pub child : (thread : Thread D) (w : World D) → HasNotifier thread → is_calling thread.task ≡ false → R w → R (record w { threads = w.threads ++ thread ∷ [] })
 
-  -- an object that is no channel stands there, whatever takes another's place
+  -- an object that is no channel is there, whatever takes another's place
   pub set_away : (objects : List (Object D)) (m n : ℕ) (x : Object D) → IsAway x → AwayAt (slice_get objects n) → AwayAt (slice_get (slice_set objects m x) n)
   set_away [] m n x h there = there
   set_away (y ∷ objects) zero zero x h there = h

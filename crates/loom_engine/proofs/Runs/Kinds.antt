@@ -172,7 +172,7 @@ module _ {D : Type 0} where
   effect_resuming (task.Access access) w = accesses_resuming access w
   effect_resuming todo w = freely (Resuming (freed_by todo) w) (takes_effect todo w) (effect_fairly todo w refl)
 
-  -- the active thread is told
+  -- the active thread gets the reply
   pub effect_tells : (todo : Task D) (w : World D) → Answers TellsActive (takes_effect todo w)
   effect_tells task.Start w = refl
   effect_tells task.Body w = tt

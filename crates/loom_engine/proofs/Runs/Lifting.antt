@@ -130,7 +130,7 @@ module _ {D : Type 0} (Kept : World D → Type 0) (TurnTo : Turn D × World D �
     goes_on_kept (AtSpurious n, c) k = questions _ _ (λ o. waits_kept n c o k)
     goes_on_kept (Explores todo, c) k = then_keeps {Q = Anything} (came (switched todo c.exploring)) _ (came_anything (switched todo c.exploring)) (λ exploring q. gives _ k)
 
-    -- an operation that begins so comes to such a turn
+    -- an operation that begins so leads to such a turn
     pub event_kept : (todo : Request D ⊤) (c : Course D) → Answers EnteredTo (counted todo c.world) → Keeps (InWorld TurnTo) (submit todo c)
     event_kept todo c h =
         then_keeps {Q = InWorld EnteredTo} (carried c (begins todo c.world)) _ (carried_keeps c (begins todo c.world) (answers_keeps (counted todo c.world) h))

@@ -1,4 +1,4 @@
--- A load is told the value of one of the last seven stores of its atomic.
+-- A load gets the value of one of the last seven stores of its atomic.
 use Rattle.std.proofs.Common.{◌≡◌, ◌⊎◌, ℕ, zero, suc, Bool, true, false, List, [], ◌∷◌, ◌++◌, map, length, Option, Some, None, refl, ap, sym, subst, ◌∙◌, inl, inr, arith}
 use Rattle.std.proofs.lemmas.Option.{slice_get_within}
 use Rattle.std.specs.Prelude.{if◌then◌else◌, is_some, nat_lt, slice_get, slice_index_or, slice_set, Result, Ok, Err, ⊤}
@@ -141,7 +141,7 @@ module _ {D : Type 0} where
   more_task (x ∷ threads) child zero mine e = e
   more_task (x ∷ threads) child (suc t) mine e = more_task threads child t mine e
 
-  -- a thread that is there and comes to a branch point has that pending
+  -- a thread that is there and reaches a branch point has that pending
   pub here_task : (todo : Task D) (is_blocked : Bool) (threads : List (Thread D)) (a : ℕ) → is_some (slice_get threads a) ≡ true → task_at (slice_get (with_thread (pending todo is_blocked) a threads) a) ≡ Some todo
   here_task todo is_blocked [] a e = absurd (cc e)
   here_task todo is_blocked (x ∷ threads) zero e = refl
@@ -250,7 +250,7 @@ module _ {D : Type 0} (t n : ℕ) (order : Ordering) where
     steps = λ left w s. s;
   }
 
-  -- what holds where thread t is told this
+  -- what holds where this is thread t's reply
   abbrev pub Claim : Reply D → World D → Type 0
   Claim told w = (value : ℕ) → told ≡ reply.Value value → ReadsOneOfTheLast (slice_get w.points.places n) value
 

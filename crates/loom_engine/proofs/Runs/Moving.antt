@@ -91,7 +91,7 @@ use Rattle.loom_objects.specs.World.{World, MAX_THREADS, child_thread}
 use Rattle.loom_engine.proofs.Runs.Answering.{Answers, answers_then}
 use Rattle.loom_engine.proofs.Runs.Kept.{is_calling, IsAway, AwayAt, stated, unparked_same, KeptByMoves, set_away}
 
--- of a rule that comes to a state
+-- of a rule that leads to a state
 abbrev pub Within : {D A : Type 0} → (World D → Type 0) → A × World D → Type 0
 Within R answered = R answered.1
 

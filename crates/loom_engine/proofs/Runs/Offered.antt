@@ -48,7 +48,7 @@ use Rattle.loom_engine.proofs.Runs.Ruling.{misuse}
 
 -- ---- trees
 
--- whatever is chosen of the options, from this last choice on, the one holds of the last choice and of what it comes to, and the other of
+-- whatever is chosen of the options, from this last choice on, the one holds of the last choice and of what it gives, and the other of
 -- its failure
 pub data Offers {A : Type 0} (F : FailureKind → Type 0) (P : Option Choice → A → Type 0) : Option Choice → Tree A → Type 0 where
   gives : (last : Option Choice) (value : A) → P last value → Offers F P last (Gives value)

@@ -168,7 +168,7 @@ module _ {D : Type 0} (first : Points) (start : LeadsReadably first_points first
   any_op (op.Fence order) = tt
   any_op _ = tt
 
-  -- by options it comes to such points, or fails by itself
+  -- by options it leads to such points, or fails by itself
   event_led : (todo : Request D ⊤) (c : Course D) → At c.world → Offers IsOwn (λ last. InWorld In) None (submit todo c)
   event_led todo c s =
       event_offers_so IsOwn (λ kind own. own) At (λ last. In)

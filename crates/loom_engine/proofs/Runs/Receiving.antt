@@ -117,7 +117,7 @@ module _ {D : Type 0} (n : ℕ) where
   same_channel m o (inr e) (inr f) = cc (e, f)
 
   module _ (q : List D) (handed : ℕ → Option (ChannelOp D)) where
-    -- a thread is told something that says nothing of a channel
+    -- a thread gets a reply that says nothing of a channel
     told_other : (t : ℕ) (answer : Reply D) (w : World D) → (answer ≡ reply.Done → ⊥) → ((value : D) → answer ≡ reply.Data value → ⊥) → Bound q handed t w → IsAfter q handed (turn.Reply t answer) w
     told_other t answer w not_done no_data k = record {
       sent = λ u value s. absurd (not_done (cc s.1));
@@ -150,7 +150,7 @@ module _ {D : Type 0} (n : ℕ) where
     by_active : (a : ℕ) (w : World D) → Bound q handed a w → Bound q handed w.active w
     by_active a w k = subst (λ t. Bound q handed t w) (sym k.own) k
 
-    -- a thread that comes to a branch point with nothing to do to a channel
+    -- a thread that reaches a branch point with nothing to do to a channel
     asked_idle : (a : ℕ) (w : World D) → doing_for (handed a) ≡ None → Bound q handed a w → Asked q handed w
     asked_idle a w idle k = record { queue = k.queue; pending = λ u. by_number u (decided u a) }
       where
@@ -160,7 +160,7 @@ module _ {D : Type 0} (n : ℕ) where
             let mine : doing_for (handed u) ≡ None = subst (λ t. doing_for (handed t) ≡ None) (sym same) idle in let f = k.pending u in cc (none, mine, f)
         by_number u (inr off) = let same : except a handed u ≡ doing_for (handed u) = cond_off u a None (doing_for (handed u)) off in let f = k.pending u in cc (same, f)
 
-    -- one that comes to a branch point with what it has handed over
+    -- one that reaches a branch point with what it has handed over
     pends_asked : (todo : Task D) (is_blocked : Bool) (a : ℕ) (w : World D) → doing todo ≡ doing_for (handed a) → Bound q handed a w
         → IsAsked q handed w.objects (with_thread (pending todo is_blocked) w.active w.threads)
     pends_asked todo is_blocked a w busy k = record { queue = k.queue; pending = λ u. by_number u (decided u w.active) }

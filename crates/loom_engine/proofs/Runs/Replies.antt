@@ -1,4 +1,4 @@
--- Only locks and waits are told the data of a lock by their replies.
+-- Only replies to locks and waits have the data of a lock.
 use Rattle.std.proofs.Common.{◌≡◌, ℕ, Bool, true, false, List, [], ◌∷◌, Option, Some, None, refl}
 use Rattle.std.specs.Prelude.{◌==◌, Result, Ok, Err, ⊤, is_none, length, nat_lt, not, slice_get, ◌-◌, ◌^◌}
 use Rattle.std.specs.declared.sync.atomic.Ordering.{Ordering}
@@ -322,7 +322,7 @@ module _ {D : Type 0} where
   thread_quiet thread_op.Exit w = after (active_thread w) _ (λ thread. after (check (is_finished thread.phase) Misuse) _ (λ u. refl))
   thread_quiet thread_op.End w = after (active_thread w) _ (λ thread. after (check (is_exited thread.phase) Misuse) _ (λ u. tt))
 
-  -- ---- what the chosen thread is told
+  -- ---- the chosen thread's reply
 
   next : {B : Type 0} (r : Result B FailureKind) (onward : B → Result (Reply D × World D) FailureKind) → ((b : B) → Answers Unlocked (onward b)) → Answers Unlocked (r >>= onward)
   next r onward h = answers_then Unlocked r onward h

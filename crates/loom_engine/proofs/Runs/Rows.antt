@@ -1,4 +1,4 @@
--- What the runs of small bodies come to.
+-- The outcomes of the runs of small bodies.
 use Rattle.std.proofs.Common.{refl}
 use native.Mathlib.Decide.{ℕ_discrete}
 use Rattle.loom_views.specs.AccessRecords.{races}

@@ -31,11 +31,11 @@ whole_fair : {B : Type 0} (is_taken : Bool) (b : B) → IsFairResult {A = B} (co
 whole_fair true b = misuse
 whole_fair false b = tt
 
--- this holds of what it comes to, and it fails by itself
+-- this holds of what it gives, and it fails by itself
 abbrev pub Fairly : {A : Type 0} → (A → Type 0) → Result A FailureKind → Type 0
 Fairly P r = AnswersBy IsOwn P r
 
--- this holds of what it comes to, and it doesn't fail because a path isn't met
+-- this holds of what it gives, and it doesn't fail because a path isn't met
 abbrev pub Freely : {A : Type 0} → (A → Type 0) → Result A FailureKind → Type 0
 Freely P r = AnswersBy IsMet P r
 
@@ -67,7 +67,7 @@ answer_fairly P (Ok b) next fair h = h b
 answer_fairly P (Err kind) next fair h = fair
 
 module _ {D : Type 0} where
-  -- what holds in a state holds where the rule comes to, whichever mutex is followed
+  -- what holds in a state holds where the rule leads, whichever mutex is followed
   abbrev pub Onward : {A : Type 0} → World D → A × World D → Type 0
   Onward w answered = (out : Aim) → Ready out w → Ready out answered.1
 
@@ -75,11 +75,11 @@ module _ {D : Type 0} where
   abbrev pub OnwardBut : {A : Type 0} → ℕ → World D → A × World D → Type 0
   OnwardBut m w answered = (out : Aim) → (out ≡ Out m → ⊥) → Ready out w → Ready out answered.1
 
-  -- and if what the thread is told is the data of a mutex, that is out from now on
+  -- and if the thread's reply is the data of a mutex, that is out from now on
   abbrev pub Telling : World D → Reply D × World D → Type 0
   Telling w answered = (out : Aim) → Ready out w → Told out answered
 
-  -- what the active thread is told where it has no branch point, or the state in which it comes to one or switches the search
+  -- the active thread's reply where it has no branch point, or the state in which it reaches one or switches the search
   abbrev pub Entered : Aim → Entry D × World D → Type 0
   Entered out (Answered reply, w) = Told out (reply, w)
   Entered out (AtBranch, w) = Kept out w
@@ -100,7 +100,7 @@ module _ {D : Type 0} where
   abbrev pub Opening : ℕ → World D → Entry D × World D → Type 0
   Opening n w answered = (out : Aim) → Ready out w → Opened out n answered
 
-  -- a thread has its turn, or one comes to another branch point
+  -- a thread has its turn, or one reaches another branch point
   abbrev pub PassedTo : Aim → Passed D × World D → Type 0
   PassedTo out (passed.Turn turn, w) = TurnTo out (turn, w)
   PassedTo out (passed.AtBranch, w) = Ready out w
@@ -116,7 +116,7 @@ module _ {D : Type 0} where
   abbrev pub Resuming : Option ℕ → World D → Resumed D × World D → Type 0
   Resuming freed w answered = (out : Aim) → ((m : ℕ) → out ≡ Out m → freed ≡ Some m → ⊥) → Ready out w → ResumedTo out answered
 
-  -- what a rule comes to from this state
+  -- what a rule leads to from this state
   abbrev pub Keeping : {A : Type 0} → World D → Result (A × World D) FailureKind → Type 0
   Keeping w r = Fairly (Onward w) r
 
@@ -142,7 +142,7 @@ module _ {D : Type 0} where
   chained w v (Ok answered) h kept = λ out k. kept out (h out k)
   chained w v (Err kind) h fair = fair
 
-  -- it goes on from the state that another one comes to
+  -- it goes on from the state that another one leads to
   pub then_keeping : {A B : Type 0} (r : Result (B × World D) FailureKind) (next : B × World D → Result (A × World D) FailureKind) (w : World D) → Keeping w r
       → ((answered : B × World D) → Keeping answered.1 (next answered)) → Keeping w (r >>= next)
   then_keeping (Ok answered) next w kept h = chained w answered.1 (next answered) kept (h answered)
@@ -228,7 +228,7 @@ module _ {D : Type 0} where
       by_object (Some (object.AtomicWaker place)) = tt
       by_object (Some _) = misuse
 
-  -- the mutex of this number stands there, and is a sound one
+  -- the mutex of this number is there, and is a sound one
   pub mutex_fairly : {A : Type 0} (P : A → Type 0) (n : ℕ) (w : World D) (next : Mutex D → Result A FailureKind)
       → ((mutex : Mutex D) → slice_get w.objects n ≡ Some (object.Mutex mutex) → (AreSound w.objects → IsSoundMutex mutex) → Fairly P (next mutex)) → Fairly P (a_mutex n w >>= next)
   mutex_fairly {A} P n w next h = by_object (slice_get w.objects n) refl (get_sound w.objects n)

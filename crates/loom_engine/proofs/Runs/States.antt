@@ -89,7 +89,7 @@ module _ {D : Type 0} where
   TurnTo out (turn.Start t, w) = Ready out w
   TurnTo out (turn.Ended value, w) = Kept out w
 
-  -- the same of what it is told
+  -- the same of a reply
   abbrev pub Told : Aim → Reply D × World D → Type 0
   Told out (reply, w) = Ready out w × ((n : ℕ) → locked_by reply ≡ Some n → Taken out n w)
 
@@ -159,7 +159,7 @@ module _ {D : Type 0} where
       → IsReady out objects threads active → IsReady out objects (with_thread change t threads) active
   changed_ready {threads = threads} change t h k = ready_by_threads _ (with_anew change t threads h) k
 
-  -- it comes to a branch point, and then isn't to wait
+  -- it reaches a branch point, and then isn't to wait
   pub pends_ready : {out : Aim} {objects : List (Object D)} {threads : List (Thread D)} {active : ℕ} (todo : Task D) (is_blocked : Bool) → freed_by todo ≡ None
       → IsReady out objects threads active → IsReady out objects (with_thread (pending todo is_blocked) active threads) active
   pends_ready {active = active} todo is_blocked h k = changed_ready (pending todo is_blocked) active (λ thread m e. absurd (cc (h, e))) k
@@ -242,7 +242,7 @@ module _ {D : Type 0} where
   settled_empty (object.RwLock lock) s = absurd s
   settled_empty _ s = tt
 
-  -- of the object that stands there
+  -- of the object that is there
   pub holds_there : (P : Object D → Type 0) (objects : List (Object D)) (n : ℕ) (x : Object D) → slice_get objects n ≡ Some x → ObjectAt P (slice_get objects n) → P x
   holds_there P objects n x e p = subst (ObjectAt P) e p
 

@@ -45,7 +45,7 @@ use Rattle.loom_engine.proofs.Runs.Ruling.{Entering, Freely, Onward, freely}
 use Rattle.loom_engine.proofs.Runs.Kinds.{effect_tells}
 use Rattle.loom_objects.specs.declared.operation.Turn.TheVariants as turn
 
--- a rule without a choice settles: it comes to something, or fails as itself
+-- a rule without a choice settles: it gives something, or fails as itself
 came_settles : {A : Type 0} {P : A → Type 0} (Q : A → Type 0) (r : Result A FailureKind) → Freely Q r → Answers P r → Settles P (came r)
 came_settles Q (Ok answered) kept h = settles_at answered h
 came_settles Q (Err kind) fair h = fails_by_itself kind fair

@@ -106,7 +106,7 @@ module _ {D : Type 0} where
   set_body (x ∷ threads) zero body e = e
   set_body (x ∷ threads) (suc u) body e = set_body threads u body e
 
-  -- the atomic that was looked up stands there
+  -- the atomic that was looked up is there
   atomic_there : (m : ℕ) (w : World D) (atomic : Atomic) → an_atomic m w ≡ Ok atomic → slice_get w.objects m ≡ Some (object.Atomic atomic)
   atomic_there m w atomic = by_object (slice_get w.objects m)
     where
@@ -259,7 +259,7 @@ module _ {D : Type 0} (n : ℕ) (c : Course D) (event : Event D) where
     raised_same : SameAt raised
     raised_same = raise_values w.points raised w.active n e ∙ s
 
-    -- what an exchange comes to
+    -- what an exchange does
     abbrev Exchanged : ℕ → Exchange → Result ℕ ℕ × World D → Type 0
     Exchanged m exchange (Ok read, v) =
         (atomic : Atomic) × ((slice_get v.objects m ≡ Some (object.Atomic atomic)) × (((read == fit atomic.numbers exchange.expected) ≡ true)

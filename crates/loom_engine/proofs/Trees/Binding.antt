@@ -9,7 +9,7 @@ use Rattle.loom_engine.specs.Trees.Meeting.{Settings, Marking}
 use Rattle.loom_engine.specs.Trees.Drive.{Trail, Answer, branch, backtrack, is_used_up, drive, drive_on}
 
 module _ {A B : Type 0} (s : Settings) (adds : Marking) where
-  -- from what the one tree came to the path goes on through the other
+  -- from the one tree's outcome the path goes on through the other
   abbrev pub onward : (A → Tree B) → Result A FailureKind × Trail → Result B FailureKind × Trail
   onward next (Ok a, path) = drive s adds (next a) path
   onward next (Err kind, path) = (Err kind, path)

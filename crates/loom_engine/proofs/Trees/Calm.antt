@@ -150,7 +150,7 @@ all_made m is p list rests made =
     let w = (walk_complete (calm m) p list (calm_machine m is) (calm_rests m p rests) made).0 in
     record { members = λ x. (λ h. (w.members x).0 (calm_left m p x h), λ h. back_left m p x ((w.members x).1 h)); once = w.once; together = w.together }
 
--- rounds come to such a place
+-- rounds reach such a place
 pub goes_from : (m : Machine) → IsMachine m → (p : List Stored) (list : List (List Choice)) (last : List Stored) → IsResting m p → IsResting m last → Rounds m p list last
     → Goes m p list last
 goes_from m is p list last begins rests rounds = elim (walk_ends (calm m) last (calm_machine m is) (calm_rests m last rests)).2 [

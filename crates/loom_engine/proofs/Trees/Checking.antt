@@ -80,7 +80,7 @@ module _ {A : Type 0} (s : Settings) (adds : Marking) (tree : Tree A) (sound : I
   is : IsMachine (machine_of s adds tree)
   is = machine_law s adds tree sound fair
 
-  -- what a drive from a path at rest comes to
+  -- the outcome of a drive from a path at rest
   record Round (p : List Stored) (o : Result A FailureKind) (path : Trail) : Type 0 where
     leaves : path.nodes ≡ after_run m p
     is_run : choices path.nodes ≡ run_of m p

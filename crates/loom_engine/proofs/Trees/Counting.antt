@@ -200,7 +200,7 @@ module _ {A : Type 0} where
     every = λ c n a h. every_met_by s (passed tree c) (met s.max_branches tree c) n r b (met_explores tree s.max_branches c n k h) h;
   }
 
-  -- a run that comes to something is over
+  -- a run that has an outcome is over
   outcome_over : (tree : Tree A) (room : ℕ) (c : List Choice) (o : Result A FailureKind) → outcome room tree c ≡ Some o → met room tree c ≡ None
   outcome_over (Gives value) room c o h = refl
   outcome_over (Fails failure) room c o h = refl
@@ -227,7 +227,7 @@ module _ {A : Type 0} where
   MayTake : ℕ → Tree A → List Choice → Type 0
   MayTake room tree c = (before : List Choice) (x : Choice) (after : List Choice) → c ≡ before ++ x ∷ after → (n : Made) × (met room tree before ≡ Some n) × Among x n.options
 
-  -- a run of options that is over comes to something
+  -- a run of options that is over has an outcome
   over_comes : (tree : Tree A) (room : ℕ) (c : List Choice) → IsSoundTree tree → MayTake room tree c → met room tree c ≡ None → Comes room tree c
   unfolding Comes MayTake
   over_comes (Gives value) room [] k a h = (Ok value, refl)

@@ -220,7 +220,7 @@ used_up front =
 
 -- ---- the drive
 
--- the tree root comes to the tree sub by these choices
+-- the tree root leads to the tree sub by these choices
 pub record Here {A : Type 0} (s : Settings) (adds : Marking) (root : Tree A) (room : ℕ) (sub : Tree A) (c : List Choice) (passes : List (Made × Choice)) (acc : ℕ → Choice → Bool) : Type 0 where
   pub node : (d : List Choice) → met s.max_branches root (c ++ d) ≡ met room sub d
   pub passing : (d : List Choice) → passed root (c ++ d) ≡ passes ++ passed sub d

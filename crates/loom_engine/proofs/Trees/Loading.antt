@@ -59,7 +59,7 @@ module _ {A : Type 0} (s : Settings) (adds : Marking) (root : Tree A) (sound : I
   over_here : (front : List Stored) (t : ℕ → Choice → Bool) (d : Result A FailureKind × Trail) → IsUnderWay m p (choices front) t (front ++ []) → m.node (choices front) ≡ None → Comes d
   over_here front t d way over = whole front t (subst (λ q. IsUnderWay m p (choices front) t q) (append-nil front) way) over
 
-  -- where the path's next node isn't the one that the run comes to
+  -- where the path's next node isn't the one that the run meets
   parted_here : (front rest : List Stored) (n : Stored) (t : ℕ → Choice → Bool) → IsUnderWay m p (choices front) t (front ++ n ∷ rest) → m.node (choices front) ≢ Some n.made → IsPartedAt m p (choices front)
   parted_here front rest n t way other = parted m p (front ++ n ∷ rest) (choices front) t n way (node_next front n rest) other
 

@@ -1,4 +1,4 @@
--- A reduced search comes to no other runs than the search with the same bound that isn't reduced.
+-- A reduced search makes no other runs than the search with the same bound that isn't reduced.
 use Rattle.std.proofs.Common.{◌≡◌, ◌≢◌, ◌⊎◌, ℕ, zero, suc, ◌<◌, ◌≤◌, Bool, true, false, ◌&&◌, not, List, [], ◌∷◌, ◌++◌, length, Option, Some, None, refl, sym, ◌∙◌, subst, inl, inr, arith}
 use Rattle.std.specs.Prelude.{cond}
 use Rattle.loom_objects.specs.declared.choice.Choice.{Choice}

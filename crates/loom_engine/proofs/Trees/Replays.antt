@@ -1,4 +1,4 @@
--- A path that is to follow choices makes the replayed run, and what that run comes to.
+-- A path that is to follow choices makes the replayed run, and has its outcome.
 use Rattle.std.proofs.Common.{◌≡◌, ◌⊎◌, ℕ, zero, suc, ◌+◌, ◌<◌, ◌≤◌, Bool, List, [], ◌∷◌, ◌++◌, length, Some, None, refl, ap, ap₂, sym, ◌∙◌, subst, inl, inr, arith, append-nil, length-append}
 use Rattle.std.specs.Prelude.{slice_get, cond, Result, Ok, Err}
 use Rattle.std.proofs.lemmas.Option.{slice_get_past}
@@ -30,7 +30,7 @@ use Rattle.loom_engine.proofs.Trees.Given.{nothing_after, refuses, not_used}
 -- ---- the drive
 
 module _ {A : Type 0} (s : Settings) (adds : Marking) (root : Tree A) (c : List Choice) where
-  -- after these choices the drive makes the choices that the replayed run makes, and comes to what it comes to
+  -- after these choices the drive makes the choices that the replayed run makes, and has its outcome
   record Replays (from : List Choice) (r : List Choice × Result A FailureKind) (d : Result A FailureKind × Trail) : Type 0 where
     comes : d.0 ≡ r.1
     made : choices d.1.nodes ≡ from ++ r.0

@@ -1,4 +1,4 @@
--- A check that begins with a path: what its first run comes to says whether the path is one of the tree's.
+-- A check that begins with a path: the outcome of its first run says whether the path is one of the tree's.
 use Rattle.std.proofs.Common.{◌≡◌, ℕ, zero, suc, ◌<◌, ◌≤◌, List, [], ◌∷◌, ◌++◌, length, Some, refl, ap, sym, ◌∙◌, subst, inl, inr, arith}
 use Rattle.std.proofs.Math.Nat.{lt_of_not-le}
 use Rattle.std.proofs.Math.Seq.{take-length}
@@ -133,7 +133,7 @@ module _ {A : Type 0} (s : Settings) (adds : Marking) (tree : Tree A) (search : 
     first : FirstRun s adds tree p (drive s adds tree (at_start p))
     first = first_run_law s adds tree p search.sound search.marking shut rest size
 
-    -- where its first run came to a value, it is one of the tree's
+    -- where its first run gave a value, it is one of the tree's
     of_tree : (value : A) (path : Trail) → drive s adds tree (at_start p) ≡ (Ok value, path) → IsResting m p
     of_tree value path h = go first
       where

@@ -82,7 +82,7 @@ passes_begin (n ∷ front) (m ∷ q) b =
 
 -- ---- what the path says
 
--- The path has answered the question by this choice, at a node that stands where it was, and is passed; its nodes are there later on.
+-- The path has answered the question by this choice, at a node that is where it was, and is passed; its nodes are there later on.
 pub record Answers (path : Trail) (question : Question) (o : Choice) (mid : Trail) : Type 0 where
   pub position : mid.position ≡ path.position + 1
   pub given : mid.given ≡ path.given

@@ -38,7 +38,7 @@ module _ {A : Type 0} (s : Settings) (adds : Marking) (tree : Tree A) where
   final_round p last runs value path (makes_one _ next _ first trail others g f made) h e =
       makes_more p next first trail (others ++ (choices path.nodes, value) ∷ []) g f (final_round next last others value path made h e)
 
-  -- what a drive from a path at rest comes to, failing or not, and the path after it
+  -- the outcome of a drive from a path at rest, failing or not, and the path after it
   pub record AfterDrive (last : List Stored) (o : Result A FailureKind) (path : Trail) : Type 0 where
     pub all_passed : path ≡ at_end path.nodes
     pub leaves : path.nodes ≡ after_run (machine_of s adds tree) last
@@ -46,7 +46,7 @@ module _ {A : Type 0} (s : Settings) (adds : Marking) (tree : Tree A) where
     pub comes : outcome s.max_branches tree (choices path.nodes) ≡ Some o
 
   module _ (sound : IsSoundTree tree) (marking : IsMarking adds) where
-    -- a path that rounds come to rests
+    -- a path that rounds reach is at rest
     pub makes_rests : (p last : List Stored) (runs : List (List Choice × A)) → IsResting (machine_of s adds tree) p → Makes s adds tree p runs last
         → IsResting (machine_of s adds tree) last
     makes_rests p last runs rests made = (part_at s adds tree sound marking p last runs rests made).stopped.resting

@@ -1,4 +1,4 @@
--- A walk comes to an end: each round adds one to the number of tried options at a node, and drops only what stands behind it.
+-- A walk ends: each round adds one to the number of tried options at a node, and drops only what is behind it.
 use Rattle.std.proofs.Common.{◌≡◌, ◌⊎◌, ℕ, zero, suc, ◌+◌, ◌*◌, ◌^◌, ◌<◌, ◌≤◌, Bool, true, false, ◌&&◌, List, [], ◌∷◌, ◌++◌, length, Option, Some, None, refl, ap, ap₂, sym, ◌∙◌, subst, inl, inr, arith, length-append, mul-le-mul_right, pow-suc, mul_comm}
 use native.Mathlib.Decide.{dec_le}
 use Rattle.loom_objects.specs.declared.choice.Choice.{Choice}

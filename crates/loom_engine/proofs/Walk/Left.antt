@@ -78,7 +78,7 @@ never_again m w p rest branch k c at visited x (by_alternative s before o d alt 
     go (later f i j) ih =
         ih (f ++ alt.chosen ∷ alt.after) (alt.splits ∙ ap (λ t. t ++ alt.chosen ∷ alt.after) i ∙ append_assoc branch (c ∷ f) (alt.chosen ∷ alt.after))
 
--- where a node of the next path stands
+-- where a node of the next path is
 pub data NextPlace (q : List Stored) (branch : List Choice) (n : Stored) (o : Choice) (before : List Choice) (y : Stored) : Type 0 where
   above_next : node_at q before ≡ Some y → NextPlace q branch n o before y
   at_next : before ≡ branch → y ≡ choose n o → NextPlace q branch n o before y
@@ -99,7 +99,7 @@ next_place q next branch n o s before y h = go (two_splits before y.present a.0 
         nothing [] g = cc g
         nothing (b ∷ f) g = cc g
 
--- where a node of the old path stands
+-- where a node of the old path is
 pub data OldPlace (next : List Stored) (branch : List Choice) (n : Stored) (before : List Choice) (y : Stored) : Type 0 where
   above_old : node_at next before ≡ Some y → OldPlace next branch n before y
   at_old : before ≡ branch → y ≡ n → OldPlace next branch n before y

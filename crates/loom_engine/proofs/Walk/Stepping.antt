@@ -6,7 +6,7 @@ use Rattle.loom_engine.proofs.Walk.Lists.{node_on}
 use Rattle.loom_engine.proofs.Walk.Statuses.{goes_to_pending, first_is_pending}
 use Rattle.loom_engine.proofs.Walk.After.{node_in}
 
--- the path q goes on at its node n, which stands after the choices branch, to the option o
+-- the path q goes on at its node n, which is after the choices branch, to the option o
 pub record IsStep (q next : List Stored) (branch : List Choice) (n : Stored) (o : Choice) : Type 0 where
   pub at : node_at q branch ≡ Some n
   pub exploring : n.made.exploring ≡ true

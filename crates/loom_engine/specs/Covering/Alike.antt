@@ -32,7 +32,7 @@ module _ {A B : Type 0} (limits : FailureKind → Bool) (Same : A → B → Type
   AsksAlike asked Goes (Gives b) = ⊥
   AsksAlike asked Goes (Closes rest) = ⊥
 
-  -- By the same choices both come to values that are the same in this sense, or fail alike, and offer the same on the way; but each
+  -- By the same choices both give values that are the same in this sense, or fail alike, and offer the same on the way; but each
   -- may fail by a limit, wherever it is.
   abbrev pub AreAlike : Tree A → Tree B → Type 0
   AreAlike (Gives a) other = GivesAlike a other

@@ -14,7 +14,7 @@ pub record Tracks : Type 0 where
   pub passed : List ℕ
 
 module _ (led_by : List (List Choice)) where
-  -- who makes these choices passes the state of this number: they begin with those by which a run came to it
+  -- who makes these choices passes the state of this number: they begin with those that led a run to it
   pub record Passes (made : List Choice) (number : ℕ) : Type 0 where
     pub there : List Choice
     pub rest : List Choice
@@ -30,7 +30,7 @@ module _ (led_by : List (List Choice)) where
     pub before : Passes there way.from
     pub after : Passes made next
 
-  -- It is a way of a run that made these choices and came to the state of this number, or to its end: from a state that it passed to there,
+  -- It is a way of a run that made these choices and reached the state of this number, or its end: from a state that it passed to there,
   -- or to one that it passed later.
   abbrev pub IsOfRun : List Choice → Option ℕ → Way → Type 0
   IsOfRun made to way = (Passes made way.from × (way.to ≡ to)) ⊎ IsWithin made way
@@ -87,7 +87,7 @@ module _ (led_by : List (List Choice)) (made : List Choice) where
     pub before : (n m : ℕ) (c d : List Choice) → Contains passed n → Passes led_by made n → first ≤ m → slice_get led_by n ≡ Some c → slice_get led_by m ≡ Some d → length c ≤ length d
     pub within : (n m : ℕ) (c d : List Choice) → first ≤ n → n < m → slice_get led_by n ≡ Some c → slice_get led_by m ≡ Some d → length c ≤ length d
 
-  -- where such a run begins: the states that were passed are linked, and it comes to the others in order
+  -- where such a run begins: the states that were passed are linked, and it meets the others in order
   pub record IsReady (first : ℕ) (old : Tracks) : Type 0 where
     pub low : first ≤ length led_by
     pub linked : Linked old.ways old.passed
@@ -108,7 +108,7 @@ pub record EndsAt {K : Type 0} (key : List Choice → K) (led_by : List (List Ch
   pub same : key (choices q) ≡ key there
 
 module _ {A K : Type 0} (w : World A) (key : List Choice → K) (left : List (List Stored)) (runs : List (List Choice × A)) (led_by : List (List Choice)) where
-  -- the run that left this path came to its end, or was cut off in the state of this number
+  -- the run that left this path ended, or was cut off in the state of this number
   abbrev pub ComesTo : List Stored → Option ℕ → Type 0
   ComesTo q None = HasEnded w key left runs q
   ComesTo q (Some number) = EndsAt key led_by q number

@@ -1,4 +1,4 @@
--- What runs cover that were cut off where they came to a state that was noted.
+-- What runs cover that were cut off where they met a state that was noted.
 use Rattle.std.specs.Prelude.{◌≡◌, ◌≢◌, Bool, true, List, [], ◌∷◌, ◌++◌, Some, None, Ok, Result, ◌⊎◌}
 use Rattle.loom_objects.specs.declared.choice.Choice.{Choice}
 use Rattle.loom_objects.specs.Tree.Question.{Made}
@@ -26,11 +26,11 @@ pub record AreTried (left : List (List Stored)) : Type 0 where
       → (x : List Stored) × IsOneOf x left × Begins (before ++ o ∷ []) (choices x)
 
 module _ {A K : Type 0} (w : World A) (key : List Choice → K) (left : List (List Stored)) (runs : List (List Choice × A)) where
-  -- how the run that left the path q came to its end
+  -- how the run that left the path q ended
   pub data IsEnd (q : List Stored) : Type 0 where
     -- it was over, and the visitor was given it
     ended : (value : A) → w.node (choices q) ≡ None → w.outcome (choices q) ≡ Some (Ok value) → IsGiven (choices q) value runs → IsEnd q
-    -- it came to a state that was noted, at a node of this run or of another, made before or after it
+    -- it met a state that was noted, at a node of this run or of another, made before or after it
     met : (n : Made) → w.node (choices q) ≡ Some n → (y : List Stored) (b : List Choice) (k : Stored) → IsOneOf y left → node_at y b ≡ Some k → key b ≡ key (choices q) → IsEnd q
 
   -- The runs of a search that remembers states, by the paths that they left, once nothing is left to be tried.
@@ -40,7 +40,7 @@ module _ {A K : Type 0} (w : World A) (key : List Choice → K) (left : List (Li
     pub meets : (q : List Stored) → IsOneOf q left → (before : List Choice) (n : Stored) → node_at q before ≡ Some n → w.node before ≡ Some n.made
     pub ends : (q : List Stored) → IsOneOf q left → IsEnd q
 
--- Whatever a run of v comes to after called choices, it is a limit, or what a run of w came to that the visitor was given.
+-- Whatever a run of v ends with after called choices, it is a limit, or the result of a run of w that the visitor was given.
 abbrev pub Covers : {A : Type 0} → (FailureKind → Bool) → World A → World A → List (List Choice × A) → Type 0
 Covers {A} limits w v runs = (c : List Choice) (r : Result A FailureKind) → IsCalled v c → v.outcome c ≡ Some r
     → IsLimit limits r ⊎ ((made : List Choice) × (value : A) × IsGiven made value runs × (w.outcome made ≡ Some (Ok value)) × (r ≡ Ok value))

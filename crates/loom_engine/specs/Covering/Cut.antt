@@ -14,14 +14,14 @@ use Rattle.loom_engine.specs.Covering.World.{World, Ends, world_of}
 use Rattle.loom_engine.specs.Covering.Sound.{IsSound}
 use Rattle.loom_engine.specs.Covering.Covered.{Covers}
 
--- the tree after these choices, which comes to None where the test says so in place of a question
+-- the tree after these choices, which gives None where the test says so in place of a question
 abbrev pub cut : {A : Type 0} → (List Choice → Bool) → List Choice → Tree A → Tree (Option A)
 cut stop c (Gives value) = Gives (Some value)
 cut stop c (Fails failure) = Fails failure
 cut stop c (Closes rest) = Closes (cut stop c rest)
 cut stop c (Asks question branches) = cond (stop c) (Gives None) (Asks question (λ x. cut stop (c ++ x ∷ []) (branches x)))
 
--- the runs that the visitor is given, with one that came to a value, or was cut off
+-- the runs that the visitor is given, with one that gave a value, or was cut off
 abbrev pub with_run : {A : Type 0} → List Choice → Option A → List (List Choice × A) → List (List Choice × A)
 with_run c None runs = runs
 with_run c (Some value) runs = (c, value) ∷ runs

@@ -22,7 +22,7 @@ use Rattle.loom_engine.specs.Covering.States.{State, state_of}
 abbrev pub Key : Type 0 → Type 0 → Type 0
 Key D S = Option (State S (Sight D (SightOfPoints ⊎ Points))) × List Choice
 
--- The states that were noted, the choices by which a run came to each, and whether the body is known never to switch whether the search
+-- The states that were noted, the choices that led a run to each, and whether the body is known never to switch whether the search
 -- explores.
 pub record Noted (D S : Type 0) : Type 0 where
   pub states : List (Kept D S)
@@ -52,7 +52,7 @@ module _ {D S : Type 0} where
     pub lazies : kept.lazies ≡ scene.lazies
     pub max_threads : kept.max_threads ≡ scene.max_threads
 
-  -- it is one more of those that were noted, come to by these choices, or none is
+  -- it is one more of those that were noted, reached by these choices, or none is
   abbrev pub NotesAs : Kept D S → List Choice → Noted D S → Noted D S → Type 0
   NotesAs state choices old new = ((new.states ≡ old.states ++ state ∷ []) × (new.led_by ≡ old.led_by ++ choices ∷ []) × (new.never ≡ old.never)) ⊎ (new ≡ old)
 
@@ -69,7 +69,7 @@ module _ {D S : Type 0} where
   abbrev pub GrowsFrom : Noted D S → Noted D S → Type 0
   GrowsFrom old new = (k : ℕ) (c : List Choice) → slice_get old.led_by k ≡ Some c → slice_get new.led_by k ≡ Some c
 
-  -- This is kept of a run that stands at the first branch point of an operation, where its search explores, with views in the order of
+  -- This is kept of a run at the first branch point of an operation, where its search explores, with views in the order of
   -- its own; and that is its state, as it is seen of such a body.
   pub record IsKeptOf (never : Bool) (kept : Kept D S) (key : Key D S) : Type 0 where
     pub run : Progress D
@@ -84,7 +84,7 @@ module _ {D S : Type 0} where
     pub copied : kept ≡ state_in never run moment.bodies views
     pub state : key ≡ (Some (state_of (seen_by never) moment), [])
 
-  -- Each that was noted is kept of a run that stood, after the choices beside it, in the state that the key says.
+  -- Each that was noted is kept of a run that was, after the choices beside it, in the state that the key says.
   pub record AreKeptAfter (key : List Choice → Key D S) (noted : Noted D S) : Type 0 where
     pub counted : length noted.led_by ≡ length noted.states
     pub each : (k : ℕ) (one : Kept D S) → slice_get noted.states k ≡ Some one → (c : List Choice) × (slice_get noted.led_by k ≡ Some c) × IsKeptOf noted.never one (key c)

@@ -20,7 +20,7 @@ use Rattle.loom_engine.specs.Runs.Body.{Meaning, at_turn, with_child}
 use Rattle.loom_engine.specs.Runs.Course.{Course, carried, grown_from, one_passed, opening, unordered_in}
 use Rattle.loom_engine.specs.Runs.Machine.{chooses, flag_of, further_branches}
 
--- A run at a schedule: what its bodies keep, its course, how many branch points more the operation at hand may come to, and how
+-- A run at a schedule: what its bodies keep, its course, how many branch points more the operation at hand may reach, and how
 -- many operations may still be handed over.
 pub record Moment (D S : Type 0) : Type 0 where
   pub bodies : List S
@@ -28,13 +28,13 @@ pub record Moment (D S : Type 0) : Type 0 where
   pub more : ℕ
   pub left : ℕ
 
--- what a run comes to next: its end, with main's result, or a schedule
+-- what comes next in a run: its end, with main's result, or a schedule
 pub data Next (D S : Type 0) : Type 0 where
   RunEnds : D → Next D S
   Stands : Moment D S → Next D S
 
 module _ {D S : Type 0} where
-  -- the active thread's operation has come to its branch point
+  -- the active thread's operation has reached its branch point
   abbrev pub at_branch : ℕ → List S → Course D → Next D S
   at_branch left bodies c = Stands (record { bodies = bodies; course = c; more = further_branches; left = left })
 
@@ -61,7 +61,7 @@ module _ {D S : Type 0} where
     entered (rest (with_child (slice_set bodies thread after) (started op))) left (with_child (slice_set bodies thread after) (started op)) (entry, grown_from c.world v)
 
 module _ {D S : Type 0} (next : Meaning D S) where
-  -- The thread is told the reply, and its body hands over its next operation, and so on up to the next schedule.
+  -- The thread gets the reply, and its body hands over its next operation, and so on up to the next schedule.
   unfoldable pub to_schedule : ℕ → List S → Course D → ℕ → Reply D → Tree (Next D S)
   to_schedule zero bodies c thread answer = Fails TooManySteps
   to_schedule (suc left) bodies c thread answer = do

@@ -21,7 +21,7 @@ use Rattle.loom_engine.specs.Trees.Drive.{Trail, drive}
 use Rattle.loom_engine.specs.Covering.Cut.{passed}
 use Rattle.loom_engine.specs.Covering.Moments.{Moment, Next, RunEnds, Stands, at_branch, handing, settled, stand_after, to_schedule}
 
--- The path has passed some choices more, and by these a run that stands before the part stands where the part comes to.
+-- The path has passed some choices more, and by these a run that stands before the part stands where the part leads.
 pub record LeadsOn {A D S : Type 0} (next : Meaning D S) (last : Option (Moment D S)) (since : List Choice) (part : Tree A) (onward : A → Tree (Next D S)) (path : Trail) (came : A) (after : Trail) : Type 0 where
   pub between : List Choice
   pub passes : passed after ≡ passed path ++ between
@@ -69,7 +69,7 @@ abbrev pub ScheduleLaw : Type 0 → Type 0 → Type 0
 ScheduleLaw D S = (room : ℕ) (adds : Marking) (next : Meaning D S) (m : Moment D S) (path after : Trail) (came : Turn D × Course D) → path.position ≤ length path.nodes
     → drive (whole_search room) adds (schedule m.more m.course) path ≡ (Ok came, after) → IsEnded came.0 ⊎ TurnsOn next m path came after
 
--- the nodes of a path stand in the later one still
+-- the nodes of a path are in the later one still
 abbrev pub StayThere : Trail → Trail → Type 0
 StayThere path after = (b : List Choice) (n : Stored) → node_at path.nodes b ≡ Some n → node_at after.nodes b ≡ Some n
 

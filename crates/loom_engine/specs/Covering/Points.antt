@@ -19,7 +19,7 @@ module _ {V : Type 0} (limits : FailureKind → Bool) (seen : Points → V) wher
   abbrev pub ValuesSame : Accessed → Accessed → Type 0
   ValuesSame a b = (a.value ≡ b.value) × (seen a.points ≡ seen b.points)
 
-  -- two moves come to points of which the same is seen, or fail alike, limits aside
+  -- two moves give points of which the same is seen, or fail alike, limits aside
   abbrev pub MovesAlike : Result Points FailureKind → Result Points FailureKind → Type 0
   MovesAlike r s = AreAlike limits SeenSame (came r) (came s)
 

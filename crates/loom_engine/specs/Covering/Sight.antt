@@ -34,8 +34,8 @@ seen_by false explores w = sight seen (without_turn explores w)
 abbrev pub IsKnown : {D S : Type 0} → Bool → Meaning D S → S → Type 0
 IsKnown never next body = never ≡ true → NeverSwitches next body
 
--- A complete check of a body whose runs are cut off where they come to a state of which the same is seen has covered each of its runs,
--- those of more operations too: each fails by a limit of length, or comes to what a run came to that the visitor was given.
+-- A complete check of a body whose runs are cut off where they meet a state of which the same is seen has covered each of its runs,
+-- those of more operations too: each fails by a limit of length, or has the result of a run that the visitor was given.
 abbrev pub SeenBodyLaw : Type 0 → Type 0 → Type 0
 SeenBodyLaw D S = (never : Bool) (limits : FailureKind → Bool) (next : Meaning D S) (explores : Bool) (max_threads max_steps steps_too room : ℕ) (adds : Marking) (body : S) (left : List (List Stored)) (given : List (List Choice × D))
     → IsKnown never next body → AreLimits limits → IsMarking adds

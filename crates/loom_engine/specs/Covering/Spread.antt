@@ -35,7 +35,7 @@ pub record IsFull (m : Machine) (p : List Stored) : Type 0 where
   pub resting : IsResting m p
   pub tries : SkipsNone p
 
--- What such a search may come to: the paths that its runs left, the parts, the paths of the parts that are done, what was handed out, and
+-- How far such a search may be: the paths that its runs left, the parts, the paths of the parts that are done, what was handed out, and
 -- what is to be handed out.
 pub data Spread (m : Machine) : List (List Stored) → List Part → List Part → List (List Choice) → List (List Choice) → Type 0 where
   begin : Spread m [] (record { base = []; path = [] } ∷ []) [] [] []
@@ -70,7 +70,7 @@ pub data Spread (m : Machine) : List (List Stored) → List Part → List Part �
   drop_note : (left : List (List Stored)) (k : List Choice) (parts spent : List Part) (issued notes less : List (List Choice)) → Spread m left parts spent issued notes → Member k issued
       → IsWithout k notes less → Spread m left parts spent issued less
 
--- the runs of such a search have left these paths, and it has come to this list of parts
+-- the runs of such a search have left these paths, and its parts are this list
 abbrev pub IsSpread : Machine → List (List Stored) → Parts → Type 0
 IsSpread m left parts = (spent : List Part) × Spread m left (views parts.list.items) spent (keys parts.trunk.items) []
 
@@ -106,7 +106,7 @@ abbrev pub LeadSo : Machine → ℕ → List Stored → List (List Stored) → B
 LeadSo m floor p left false q = Rounds m floor p left q
 LeadSo m floor p left true q = AllRounds m floor p left q
 
--- Where rounds of the listed part with its base have left it so, the search has come to the new list by them.
+-- Where rounds of the listed part with its base have left it so, the new list is the search's.
 abbrev pub SpreadsBack : Parts → Kept → Parts → Bool → Type 0
 SpreadsBack old part new false = Unit {0}
 SpreadsBack old part new true =
@@ -134,7 +134,7 @@ SpreadsOutEach old new nodes list = (m : Machine) (left : List (List Stored)) (o
 
 -- ---- what it covers
 
--- Each state that was noted is that of a run which stood, after the choices beside it, at a node of one of these paths, of a body that is
+-- Each state that was noted is that of a run which was, after the choices beside it, at a node of one of these paths, of a body that is
 -- known never to switch whether the search explores, or of any.
 pub record IsTableOf {D S : Type 0} (never : Bool) (key : List Choice → Key D S) (left : List (List Stored)) (noted : Noted D S) : Type 0 where
   pub same : noted.never ≡ never
@@ -142,7 +142,7 @@ pub record IsTableOf {D S : Type 0} (never : Bool) (key : List Choice → Key D 
   pub nodes : (c : List Choice) → Contains noted.led_by c → (q : List Stored) × IsOneOf q left × HasNode q c
 
 module _ {A K : Type 0} (room : ℕ) (adds : Marking) (tree : Tree A) (key : List Choice → K) where
-  -- A search of the tree has come to these parts: its runs have left these paths, and the visitor was given those that ended. The others were
+  -- A search of the tree has these parts now: its runs have left these paths, and the visitor was given those that ended. The others were
   -- cut off in states at nodes of these paths, whichever part they are of.
   pub record HasSpread (left : List (List Stored)) (given : List (List Choice × A)) (parts : Parts) : Type 0 where
     pub spread : IsSpread (machine_of (whole_search room) adds tree) left parts

@@ -29,7 +29,7 @@ use Rattle.loom_engine.specs.Covering.Alike.{AreAlike}
 use Rattle.loom_engine.specs.Covering.Moments.{Moment, Stand, first_stand, stand_after}
 
 -- A state: what the bodies keep, what is seen of the machine's state, whether the search explores, how many branch points more the
--- operation at hand may come to, and of how many threads there are accesses in order.
+-- operation at hand may reach, and of how many threads there are accesses in order.
 pub record State (S K : Type 0) : Type 0 where
   pub bodies : List S
   pub seen : K
@@ -107,7 +107,7 @@ StatesLaw D S K F = (limits : FailureKind → Bool) (look : Bool → World D →
     (state_after look next explores max_threads steps_too body)
 
 -- So a complete check of a body's runs that are cut off at states that were noted has covered each of its runs, those of more
--- operations too: each fails by a limit, or comes to what a run came to that the visitor was given.
+-- operations too: each fails by a limit, or has the result of a run that the visitor was given.
 abbrev pub CoveredBodyLaw : Type 0 → Type 0 → Type 0 → Type 0 → Type 0
 CoveredBodyLaw D S K F = (limits : FailureKind → Bool) (look : Bool → World D → K) (between : Bool → World D → F) (next : Meaning D S) (explores : Bool) (max_threads max_steps steps_too room : ℕ) (adds : Marking)
     (body : S) (left : List (List Stored)) (given : List (List Choice × D)) → AreLimits limits → TellsFuture limits look (LooksSame between)

@@ -1,4 +1,4 @@
--- A run of a body under way, that notes the states it comes to and is given up where one was noted.
+-- A run of a body under way, that notes the states it meets and is given up where one was noted.
 use Rattle.std.specs.Prelude.{ℕ, ◌≡◌, ◌<◌, ◌≤◌, ◌⊎◌, Bool, false, List, [], ◌∷◌, ◌++◌, length, map, slice_get, take, Option, Some, Result, Ok, Err}
 use Rattle.std.specs.List.{Contains}
 use Rattle.loom_views.specs.declared.rt.failure.FailureKind.{FailureKind}
@@ -48,8 +48,8 @@ abbrev pub LeadsUncut : {R : Type 0} → ℕ → Marking → Tree R → List Sto
 LeadsUncut room adds tree front ahead = (stop : List Choice → Bool) → IsOpen stop (choices front) → LeadsBy (whole_search room) adds (cut stop [] tree) front (cut stop (choices front) ahead)
 
 module _ {R D S : Type 0} (room : ℕ) (adds : Marking) (next : Meaning D S) (tree : Tree R) (first : Stand D S) (p : List Stored) where
-  -- A run along the path p has come this far, and this tree is ahead of it: what that comes to, with the path here, is what the whole
-  -- run comes to, if it wasn't cut before; and by the nodes that it has passed the whole tree leads there. It stands there.
+  -- A run along the path p has come this far, and this tree is ahead of it: the tree's outcome, with the path here, is the whole
+  -- run's, if it wasn't cut before; and by the nodes that it has passed the whole tree leads there. It stands there.
   pub record Way (path : Trail) (ahead : Tree R) (stand : Stand D S) : Type 0 where
     pub within : path.position ≤ length path.nodes
     pub cuts : (stop : List Choice → Bool) → IsOpen stop (passed path)
@@ -94,7 +94,7 @@ module _ {D S : Type 0} (room : ℕ) (adds : Marking) (next : Meaning D S) (expl
   abbrev pub keys : Noted D S → List (Key D S)
   keys noted = map key noted.led_by
 
-  -- What this run noted stands at nodes past those with which its path began, each at a later one than what was noted before it.
+  -- What this run noted is at nodes past those with which its path began, each at a later one than what was noted before it.
   pub record AreLater (noted : Noted D S) (path : Trail) : Type 0 where
     pub there : (k : ℕ) (c : List Choice) → length old.led_by ≤ k → slice_get noted.led_by k ≡ Some c → HasNode path.nodes c × (length p ≤ length c)
     pub ordered : (k m : ℕ) (c d : List Choice) → length old.led_by ≤ k → k < m → slice_get noted.led_by k ≡ Some c → slice_get noted.led_by m ≡ Some d → length c ≤ length d
@@ -107,7 +107,7 @@ module _ {D S : Type 0} (room : ℕ) (adds : Marking) (next : Meaning D S) (expl
     pub later : AreLater noted path
     pub known : (c : List Choice) → Contains noted.led_by c → Contains old.led_by c ⊎ HasNode path.nodes c
 
-  -- the thread is to be told the reply
+  -- the thread is to get the reply
   pub record AtTurn (path : Trail) (left : ℕ) (bodies : List S) (c : Course D) (thread : ℕ) (answer : Reply D) : Type 0 where
     pub last : Option (Moment D S)
     pub since : List Choice
@@ -122,7 +122,7 @@ module _ {D S : Type 0} (room : ℕ) (adds : Marking) (next : Meaning D S) (expl
         (settled next last since (begins_at (plain op) c >>= on_begun (to_schedule next left (with_child bodies (started op))) left (with_child bodies (started op))))
     pub led : IsLed c
 
-  -- the active thread's operation has come to its branch point
+  -- the active thread's operation has reached its branch point
   pub record AtBranch (path : Trail) (left : ℕ) (bodies : List S) (c : Course D) : Type 0 where
     pub last : Option (Moment D S)
     pub since : List Choice
@@ -135,7 +135,7 @@ module _ {D S : Type 0} (room : ℕ) (adds : Marking) (next : Meaning D S) (expl
   TurnIs path left bodies c (turn.Start thread) = AtTurn path left bodies c thread reply.Start
   TurnIs path left bodies c (turn.Ended value) = drive (whole_search room) adds (cut never [] tree) (at_start p) ≡ (Ok (Some value), path)
 
-  -- the run has left the path and what was noted so: it came to this, or was cut off, as one with a table
+  -- the run has left the path and what was noted so: it ended with this, or was cut off, as one with a table
   abbrev pub Leaves : Result (Option D) FailureKind → Trail → Noted D S → Type 0
   Leaves (Ok came) path noted = Tables noted path × IsAlong room adds tree key (keys old) p (Ok came) path (keys noted)
   Leaves (Err kind) path noted = (new : List (Key D S)) × IsAlong room adds tree key (keys old) p (Err kind) path new

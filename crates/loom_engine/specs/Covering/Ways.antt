@@ -10,7 +10,7 @@ use Rattle.loom_engine.specs.Covering.Sound.{IsSound}
 use Rattle.loom_engine.specs.Covering.Covered.{IsGiven, Remembers}
 
 module _ {A K : Type 0} (w : World A) (key : List Choice → K) (left : List (List Stored)) (runs : List (List Choice × A)) where
-  -- the run that left this path came to an end, and the visitor was given it
+  -- the run that left this path ended, and the visitor was given it
   pub record HasEnded (q : List Stored) : Type 0 where
     pub value : A
     pub over : w.node (choices q) ≡ None
@@ -27,12 +27,12 @@ module _ {A K : Type 0} (w : World A) (key : List Choice → K) (left : List (Li
   abbrev pub HaveWays : Type 0
   HaveWays = (q : List Stored) (b : List Choice) (n : Stored) → IsOneOf q left → node_at q b ≡ Some n → (way : List Choice) × IsWay (key b) way
 
--- After the choices c a run of v comes to an end by this way, unless it fails by a limit before.
+-- After the choices c a run of v ends by this way, unless it fails by a limit before.
 abbrev pub ComesToEnd : {A : Type 0} → (FailureKind → Bool) → World A → List Choice → List Choice → Type 0
 ComesToEnd {A} limits v c way = ((front back : List Choice) × (way ≡ front ++ back) × IsStopped v limits (c ++ front)) ⊎ (IsCalled v (c ++ way) × (value : A) × (v.outcome (c ++ way) ≡ Some (Ok value)))
 
 -- Where each node of the runs has a way from its state to an end, so has the state after each list of called choices of v, and by it a
--- run of v comes to an end, limits aside. Which ways there are doesn't depend on v: so it is no way into a limit.
+-- run of v ends, limits aside. Which ways there are doesn't depend on v: so it is no way into a limit.
 abbrev pub WaysLaw : Type 0 → Type 0 → Type 0
 WaysLaw A K = (limits : FailureKind → Bool) (w v : World A) (key other : List Choice → K) (left : List (List Stored)) (runs : List (List Choice × A)) → Ends w → Ends v
     → IsSound limits w v key other → Remembers w key left runs

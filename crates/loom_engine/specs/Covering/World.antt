@@ -6,7 +6,7 @@ use Rattle.loom_objects.specs.Tree.Tree.{Tree}
 use Rattle.loom_engine.specs.Trees.Outcomes.{met, outcome}
 use Rattle.loom_views.specs.declared.rt.failure.FailureKind.{FailureKind}
 
--- node: what a run meets after these choices, or None where it is over. outcome: what it comes to, if it is over then.
+-- node: what a run meets after these choices, or None where it is over. outcome: what it ends with, if it is over then.
 pub record World (A : Type 0) : Type 0 where
   pub node : List Choice → Option Made
   pub outcome : List Choice → Option (Result A FailureKind)
@@ -21,7 +21,7 @@ module _ {A : Type 0} (w : World A) where
   IsCalled c = (before : List Choice) (o : Choice) (after : List Choice) → c ≡ before ++ o ∷ after
       → (n : Made) × (w.node before ≡ Some n) × Among o n.options × (n.exploring ≡ false → o ≡ n.default)
 
-  -- where a run has come to something it is over
+  -- where a run has an outcome it is over
   abbrev pub Ends : Type 0
   Ends = (c : List Choice) (r : Result A FailureKind) → w.outcome c ≡ Some r → w.node c ≡ None
 

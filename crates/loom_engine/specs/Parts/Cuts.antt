@@ -18,7 +18,7 @@ abbrev pub IsBelow : List Choice → List Choice → Type 0
 IsBelow before b = (c : Choice) × (e : List Choice) × (b ≡ before ++ c ∷ e)
 
 -- What a part is: its path rests and begins with its base, and at the nodes along the base nothing is to be tried, and
--- nothing can come to be by a mark. So what is left from the path, as the walk has it, lies above the floor.
+-- no mark can change that. So what is left from the path, as the walk has it, lies above the floor.
 pub record IsPart (m : Machine) (b : List Choice) (p : List Stored) : Type 0 where
   pub resting : IsResting m p
   pub begins : (e : List Choice) × (choices p ≡ b ++ e)
@@ -69,7 +69,7 @@ AreOpen b n list = (k : List Choice) → Member k list ↔ ((o : Choice) × (k �
 abbrev pub IsWithout : List Choice → List (List Choice) → List (List Choice) → Type 0
 IsWithout k list less = (j : List Choice) → Member j list ↔ ((j ≡ k) ⊎ Member j less)
 
--- What a search in parts may come to: the runs made, the parts, the options handed out, and the options that are to be
+-- How far a search in parts may be: the runs made, the parts, the options handed out, and the options that are to be
 -- handed out unless they were. An option is the choices before it and itself, so the trunk is the list of those handed out.
 pub data Search (m : Machine) : List (List Choice) → List Part → List (List Choice) → List (List Choice) → Type 0 where
   -- it begins with one part, the path without nodes, of which nothing is fixed

@@ -55,7 +55,7 @@ end_with k next [] = []
 end_with zero next (n ∷ p) = next ∷ []
 end_with (suc k) next (n ∷ p) = n ∷ end_with k next p
 
--- Any node at rest that was made alike may stand there.
+-- Any node at rest that was made alike may be there.
 abbrev pub EndLaw : Type 0
 EndLaw = (m : Machine) (p : List Stored) (before : List Choice) (n next : Stored) → IsResting m p → node_at p before ≡ Some n → next.made ≡ n.made → IsAtRest next
     → IsResting m (end_with (length before) next p) × (choices (end_with (length before) next p) ≡ before ++ next.present ∷ [])

@@ -46,7 +46,7 @@ keys_onto (k ∷ trunk) later = keys_onto trunk (k.items ∷ later)
 abbrev pub keys : List (Vec Choice Global) → List (List Choice)
 keys trunk = keys_onto trunk []
 
--- a search that has made these runs has come to these parts, and nothing is noted
+-- a search that has made these runs has these parts, and nothing is noted
 abbrev pub IsAt : Machine → List (List Choice) → Parts → Type 0
 IsAt m made parts = (spent : List Part) × Work m made (views parts.list.items) spent (keys parts.trunk.items) []
 
@@ -85,7 +85,7 @@ abbrev pub Leaves : Machine → Part → List (List Choice) → Bool → List St
 Leaves m q runs false p = Slice m (length q.base) q.path runs p
 Leaves m q runs true p = Ended m (length q.base) q.path runs p
 
--- Where some runs of the listed part with its base have left it so, they are made, and the search has come to the new list.
+-- Where some runs of the listed part with its base have left it so, they are made, and the new list is the search's.
 abbrev pub GivesBack : Parts → Kept → Parts → Bool → Type 0
 GivesBack old part new false = (new ≡ old) × ((number : ℕ) → IsBaseOf old.list.items part.base.items number → ⊥)
 GivesBack old part new true =

@@ -1,4 +1,4 @@
--- The options that are to be tried at the nodes of a path, as a program collects them: each as the node that stands there when it is
+-- The options that are to be tried at the nodes of a path, as a program collects them: each as the node that is there when it is
 -- the choice.
 use Rattle.std.specs.Prelude.{ℕ, ◌≡◌, ◌<◌, Bool, true, false, List, [], ◌∷◌, ◌++◌, map, take, Some, None, slice_get, ◌⊎◌}
 use Rattle.loom_objects.specs.declared.choice.Choice.{Choice}
@@ -78,7 +78,7 @@ pub record AreLow (floor : ℕ) (nodes : List Node) (list : List Opening) : Type
   pub each : EachOpening (λ opening. OpensAt nodes opening × IsLow floor nodes opening) list
   pub all : (place : ℕ) (n : Node) (o : Choice) → place < floor → slice_get nodes place ≡ Some n → is_thread (seen n).made.default ≡ true → IsOpen n o → IsListed place o list
 
--- the openings of the node were added, which stands at this place
+-- the openings of the node were added, which is at this place
 abbrev pub at_place : ℕ → Node → Opening
 at_place place node = record { place = place; node = node }
 

@@ -24,7 +24,7 @@ noted_in before zero p = []
 noted_in before (suc k) [] = []
 noted_in before (suc k) (n ∷ p) = noted_at before n ++ noted_in (before ++ n.present ∷ []) k p
 
--- some runs of the path p with this floor, the newest first, and the path that they came to
+-- some runs of the path p with this floor, the newest first, and the path that they lead to
 pub data Slice (m : Machine) (k : ℕ) (p : List Stored) : List (List Choice) → List Stored → Type 0 where
   first : (q : List Stored) → step_above k (after_run m p) ≡ Some q → Slice m k p (run_of m p ∷ []) q
   further : (runs : List (List Choice)) (q next : List Stored) → Slice m k p runs q → step_above k (after_run m q) ≡ Some next → Slice m k p (run_of m q ∷ runs) next

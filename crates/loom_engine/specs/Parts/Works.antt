@@ -1,5 +1,5 @@
 -- A search in parts as a program goes about it: its parts are paths with floors, its runs make all of their marks as ever, and
--- what is noted is what stands as to be tried below a floor.
+-- what is noted is what is to be tried below a floor.
 use Rattle.std.specs.Prelude.{◌≡◌, true, false, List, [], ◌∷◌, ◌++◌, map, take, length, Some, None, ◌⊎◌, ◌↔◌}
 use Rattle.loom_objects.specs.declared.choice.Choice.{Choice}
 use Rattle.loom_engine.specs.Walk.Machine.{Machine, is_thread}
@@ -27,13 +27,13 @@ pub record IsNotedIn (b : List Choice) (p : List Stored) (k : List Choice) : Typ
   pub thread : is_thread node.made.default ≡ true
   pub pending : node.status option ≡ Pending
 
--- the notes with those that stand in the path; one that was handed out may be left out
+-- the notes with those in the path; one that was handed out may be left out
 pub record Gathers (b : List Choice) (p : List Stored) (issued notes more : List (List Choice)) : Type 0 where
   pub only : (k : List Choice) → Member k more → Member k notes ⊎ IsNotedIn b p k
   pub old : (k : List Choice) → Member k notes → Member k more ⊎ Member k issued
   pub each : (k : List Choice) → IsNotedIn b p k → Member k more ⊎ Member k issued
 
--- what such a search may come to: the runs made, the parts, the paths of the parts that are done, what was handed out, and what is noted
+-- how far such a search may be: the runs made, the parts, the paths of the parts that are done, what was handed out, and what is noted
 pub data Work (m : Machine) : List (List Choice) → List Part → List Part → List (List Choice) → List (List Choice) → Type 0 where
   begin : Work m [] (record { base = []; path = [] } ∷ []) [] [] []
   turn : (made : List (List Choice)) (front back : List Part) (q : Part) (spent : List Part) (issued notes : List (List Choice)) → Work m made (front ++ q ∷ back) spent issued notes
@@ -50,7 +50,7 @@ pub data Work (m : Machine) : List (List Choice) → List Part → List Part →
   raise : (made : List (List Choice)) (b : List Choice) (p : List Stored) (n : Stored) (parts spent : List Part) (issued notes taken open_ones : List (List Choice))
       → Work m made (record { base = b; path = p } ∷ parts) spent issued notes → node_at p b ≡ Some n → AreTaken b n taken → AreOpen b n open_ones
       → Work m made (record { base = b ++ n.present ∷ []; path = p } ∷ parts) spent (taken ++ issued) (open_ones ++ notes)
-  -- an option that is noted, and stands in some path below its floor, becomes a part
+  -- an option that is noted, and is in some path below its floor, becomes a part
   hand_out : (made : List (List Choice)) (source : Part) (before : List Choice) (n : Stored) (o : Choice) (parts spent : List Part) (issued notes less : List (List Choice))
       → Work m made parts spent issued notes → IsIn source parts ⊎ IsIn source spent → IsBelow before source.base → node_at source.path before ≡ Some n → n.made.exploring ≡ true
       → n.status o ≡ Pending → Member (before ++ o ∷ []) notes → (Member (before ++ o ∷ []) issued → ⊥) → IsWithout (before ++ o ∷ []) notes less

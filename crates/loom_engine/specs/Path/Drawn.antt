@@ -1,4 +1,4 @@
--- A run whose choices are drawn as it comes to them, told as a run along a path that was given them before.
+-- A run whose choices are drawn as it meets them, seen as a run along a path that was given them before.
 use Rattle.std.specs.Prelude.{◌≡◌, ◌≢◌, false, List, [], length, Result, Err}
 use Rattle.loom_objects.specs.declared.choice.Choice.{Choice}
 use Rattle.loom_objects.specs.declared.failure.Stop.{Stop}

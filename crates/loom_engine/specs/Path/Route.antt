@@ -85,7 +85,7 @@ module _ {A : Type 0} (choice : A → Choice) where
   Decides old question (Err (Failure failure)) new = (branch old.search (trail old) question ≡ (Err failure.kind, trail old)) × (new ≡ old)
   Decides old question (Err Memory) new = IsShort old question new
 
--- the choice at the position, if a node stands there
+-- the choice at the position, if a node is there
 abbrev pub choice_here : Route → Option Choice
 choice_here route = option_map (λ n. n.present) (slice_get (stored route.nodes) route.position)
 
@@ -93,24 +93,24 @@ choice_here route = option_map (λ n. n.present) (slice_get (stored route.nodes)
 abbrev pub passed : Trail → Trail
 passed path = record path { position = path.position + 1 }
 
--- The node that answers the question stands at the position, and isn't passed; or the path refuses, and stays as it was.
+-- The node that answers the question is at the position, and isn't passed; or the path refuses, and stays as it was.
 abbrev pub Pushes : Route → Question → Result ⊤ Stop → Route → Type 0
 Pushes old question (Ok done) new =
     (choice : Choice) × (choice_here new ≡ Some choice) × (branch old.search (trail old) question ≡ (Ok choice, passed (trail new)))
 Pushes old question (Err (Failure failure)) new = (branch old.search (trail old) question ≡ (Err failure.kind, trail old)) × (new ≡ old)
 Pushes old question (Err Memory) new = IsShort old question new
 
--- a load stands at the position, and its choice is one of the slots that may be read
+-- a load is at the position, and its choice is one of the slots that may be read
 abbrev pub IsAtLoad : List Bool → Route → Type 0
 IsAtLoad readable route = (slot : ℕ) × (choice_here route ≡ Some (Load slot)) × (slice_get readable slot ≡ Some true)
 
--- the load at the position is passed, and this slot is its choice; or no load stands there, and the path stays as it was
+-- the load at the position is passed, and this slot is its choice; or no load is there, and the path stays as it was
 abbrev pub PassesLoad : Route → Result ℕ Stop → Route → Type 0
 PassesLoad old (Ok slot) new = (choice_here old ≡ Some (Load slot)) × (new ≡ record old { position = old.position + 1 })
 PassesLoad old (Err stop) new =
     ((slot : ℕ) → choice_here old ≢ Some (Load slot)) × (stop ≡ Failure (record { kind = NotDeterministic; location = None })) × (new ≡ old)
 
--- the way through a tree that the path takes: what it comes to, and the path after it
+-- the way through a tree that the path takes: its outcome, and the path after it
 abbrev pub drives : {A : Type 0} → Tree A → Route → Result A FailureKind × Trail
 drives tree route = drive route.search (marking route.search.bound) tree (trail route)
 

@@ -10,7 +10,7 @@ use Rattle.loom_engine.specs.declared.rt.path.node.Node.TheVariants as node
 use Rattle.loom_engine.specs.declared.rt.path.node.Schedule.{Schedule}
 use Rattle.loom_engine.specs.Path.Nodes.{seen, seen_schedule, stored}
 
--- this schedule stands at the place, made so; or a node that was made otherwise stands there, and that is the failure
+-- this schedule is at the place, made so; or a node that was made otherwise is there, and that is the failure
 abbrev pub FindsSchedule : List Node → ℕ → Made → Result Schedule Stop → Type 0
 FindsSchedule nodes k made (Ok schedule) = (slice_get nodes k ≡ Some (node.Schedule schedule)) × ((seen_schedule schedule).made ≡ made)
 FindsSchedule nodes k made (Err stop) =

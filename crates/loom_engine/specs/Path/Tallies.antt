@@ -61,7 +61,7 @@ IsNotedAt nodes k n = IsNoted k (passes_to k nodes) n
 abbrev pub AreNoted : List Node → Type 0
 AreNoted nodes = (k : ℕ) (n : Node) → slice_get nodes k ≡ Some n → IsNotedAt nodes k n
 
--- a node that is no schedule stands there
+-- a node that is no schedule is there
 abbrev pub IsValueAt : List Node → ℕ → Type 0
 IsValueAt nodes k = IsSomeAnd (slice_get (map seen nodes) k) (λ n. is_thread n.made.default ≡ false)
 

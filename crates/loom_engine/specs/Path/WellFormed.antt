@@ -91,6 +91,6 @@ bare (node.Spurious n) = node.Spurious n
 abbrev pub AreAlike : List Node → List Node → Type 0
 AreAlike nodes others = map bare nodes ≡ map bare others
 
--- the node stands at the end, with the notes of its place, and is passed
+-- the node is at the end, with the notes of its place, and is passed
 abbrev pub Appends : Route → Node → Route → Type 0
 Appends old n new = (m : Node) × (bare m ≡ bare n) × (new ≡ record old { nodes = old.nodes ++ m ∷ []; position = old.position + 1 })

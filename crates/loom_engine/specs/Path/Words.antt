@@ -4,7 +4,7 @@
 --     load       1   3 to 9 which of the seven slots may be read; 10 to 12 the place of the choice among them
 --     spurious   2   3 the choice
 --
--- All other bits are zero. What stands in a list, as the statuses do, has its first part lowest.
+-- All other bits are zero. What is a list, as the statuses are, has its first part lowest.
 use Rattle.std.specs.Prelude.{ℕ, zero, suc, ◌≡◌, ◌+◌, ◌*◌, ◌/◌, ◌%◌, ◌^◌, ◌<◌, ◌≤◌, ◌⊎◌, Bool, true, false, List, [], ◌∷◌, length, map, Option, Some, None, IfSome}
 use Rattle.loom_objects.specs.declared.choice.Choice.{Choice}
 use Rattle.loom_engine.specs.Path.Nodes.{seen}
@@ -60,7 +60,7 @@ IsFit (node.Spurious n) = Unit {0}
 abbrev pub bits : ℕ → ℕ → ℕ → ℕ
 bits word low count = word / 2 ^ low % 2 ^ count
 
--- The number stands in these bits now: it is read there, nothing else has changed, and so it has taken the place of what stood there.
+-- The number is in these bits now: it is read there, nothing else has changed, and so it has taken the place of what was there.
 pub record IsSet (low count number old new : ℕ) : Type 0 where
   pub read : bits new low count ≡ number
   pub others : (k n : ℕ) → (k + n ≤ low) ⊎ (low + count ≤ k) → bits new k n ≡ bits old k n

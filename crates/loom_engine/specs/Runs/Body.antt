@@ -19,7 +19,7 @@ abbrev pub with_child : {S : Type 0} → List S → Option S → List S
 with_child bodies None = bodies
 with_child bodies (Some child) = bodies ++ child ∷ []
 
--- goes on with the thread whose turn it is and what it is told, or ends with main's result
+-- goes on with the thread whose turn it is and its reply, or ends with main's result
 abbrev pub at_turn : {D R : Type 0} → (ℕ → Reply D → R) → (D → R) → Turn D → R
 at_turn go stop (turn.Reply thread answer) = go thread answer
 at_turn go stop (turn.Start thread) = go thread reply.Start
@@ -32,7 +32,7 @@ module _ {D S : Type 0} where
     turned ← submit (plain op) c
     at_turn (rest (with_child (slice_set bodies thread after) (started op)) turned.1) (λ value. Gives value) turned.0
 
-  -- The thread is told the reply, and its body hands over its next operation, and so on to the run's end, with main's
+  -- The thread gets the reply, and its body hands over its next operation, and so on to the run's end, with main's
   -- result. What is started is a thread more. The number bounds the operations to come.
   unfoldable pub play : Meaning D S → ℕ → List S → Course D → ℕ → Reply D → Tree D
   play next zero bodies c thread answer = Fails TooManySteps

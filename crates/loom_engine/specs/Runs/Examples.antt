@@ -1,4 +1,4 @@
--- Small bodies, and what their runs come to.
+-- Small bodies, and the outcomes of their runs.
 use Rattle.std.specs.Prelude.{ℕ, true, ◌≡◌, List, [], ◌∷◌, Option, Some, None, Result, Ok, Err, slice_index_or, ⊤}
 use Rattle.std.specs.declared.sync.atomic.Ordering.TheVariants.{Relaxed}
 use Rattle.loom_views.specs.declared.rt.failure.FailureKind.{FailureKind}
@@ -123,7 +123,7 @@ t k = choice.Thread (Some k)
 abbrev pub nobody : Choice
 nobody = choice.Thread None
 
--- what the run with these choices comes to, of at most so many nodes
+-- the outcome of the run with these choices, of at most so many nodes
 abbrev pub comes_to : ℕ → List Script → Script → List Choice → Option (Result ℕ FailureKind)
 comes_to room scripts main choices = outcome room (runs (follows scripts) true 5 1000 main) choices
 

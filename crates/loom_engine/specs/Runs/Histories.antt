@@ -23,7 +23,7 @@ use Rattle.loom_objects.specs.Tree.Tree.{Tree, Gives, Fails, Closes, Asks}
 use Rattle.loom_engine.specs.Runs.Course.{Course, opening}
 use Rattle.loom_engine.specs.Runs.Machine.{submit}
 
--- by these choices, one at each question in turn, the tree comes to this
+-- by these choices, one at each question in turn, the tree gives this
 abbrev pub ComesBy : {A : Type 0} → Tree A → List Choice → A → Type 0
 ComesBy (Gives b) [] a = b ≡ a
 ComesBy (Gives b) (choice ∷ choices) a = ⊥
@@ -33,7 +33,7 @@ ComesBy (Asks question branches) [] a = ⊥
 ComesBy (Asks question branches) (choice ∷ choices) a = ComesBy (branches choice) choices a
 
 -- What happens up to the next turn: the operation that the active thread hands over, the choices that are made from there on, and
--- the turn that they come to.
+-- the turn that they lead to.
 pub record Event (D : Type 0) : Type 0 where
   pub op : Request D ⊤
   pub choices : List Choice

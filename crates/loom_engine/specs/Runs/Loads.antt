@@ -1,4 +1,4 @@
--- What a load is told, over every history.
+-- The replies of loads, over every history.
 use Rattle.std.specs.Prelude.{ℕ, ◌≡◌, ◌≢◌, List, [], ◌∷◌, slice_get}
 use Rattle.std.specs.declared.sync.atomic.Ordering.{Ordering}
 use Rattle.loom_views.specs.Laws.Views.{ReadsOneOfTheLast}
@@ -35,13 +35,13 @@ module _ {D : Type 0} where
   IsOthers t (turn.Start u) = u ≢ t
   IsOthers t (turn.Ended value) = ⊥
 
-  -- By these events thread t is told the reply, by the last of them, in the later state. Before that other threads have their turns.
+  -- By these events thread t gets the reply, by the last of them, in the later state. Before that other threads have their turns.
   pub data IsTold (t : ℕ) (reply : Reply D) : Course D → List (Event D) → Course D → Type 0 where
     at_last : (c : Course D) (event : Event D) (v : Course D) → Follows c event v → event.turn ≡ turn.Reply t reply → IsTold t reply c (event ∷ []) v
     afterwards : (c : Course D) (event : Event D) (u : Course D) (events : List (Event D)) (v : Course D) → Follows c event u → IsOthers t event.turn → IsTold t reply u events v
         → IsTold t reply c (event ∷ events) v
 
--- Over every history: where a thread hands over a load of atomic n, and is then told a value, that is the value of one of the last
+-- Over every history: where a thread hands over a load of atomic n, and then gets a value, that is the value of one of the last
 -- seven stores of the atomic that were made by then, as it is by then.
 abbrev pub LoadLaw : Type 0 → Type 0
 LoadLaw D = (max_threads max_steps n value : ℕ) (order : Ordering) (c v : Course D) (event : Event D) (events : List (Event D)) → IsReached max_threads max_steps c

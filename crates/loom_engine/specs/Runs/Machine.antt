@@ -20,7 +20,7 @@ use Rattle.loom_objects.specs.Rules.Steps.{begins, ends, enters_wait, resumes}
 use Rattle.loom_engine.specs.Runs.Course.{Course, accesses, carried, grown_from, one_passed, unordered_in}
 use Rattle.loom_objects.specs.Tree.Asked.{which_thread, whether_spurious}
 
--- An operation comes to as many further branch points as there are stages left of it and of those that it lets go on: a receiver
+-- An operation has as many further branch points as there are stages left of it and of those that it lets go on: a receiver
 -- that is dropped has one for each message. Each is a node, and no path has more than these.
 abbrev pub further_branches : ℕ
 further_branches = 1000000

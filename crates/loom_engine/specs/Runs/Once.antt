@@ -7,7 +7,7 @@ use Rattle.loom_objects.specs.declared.operation.Turn.TheVariants.{Reply}
 use Rattle.loom_engine.specs.Runs.Course.{opening}
 use Rattle.loom_engine.specs.Runs.Histories.{Event, IsHistory}
 
--- The event makes the value of this key: a thread hands one over, and is told that it is the one, not that another one stood.
+-- The event makes the value of this key: a thread hands one over, and is told that it is the one, not that there was another.
 abbrev pub Makes : {D : Type 0} → ℕ → Event D → Type 0
 Makes {D} key event = (value : D) × ((t : ℕ) × ((event.op ≡ Lazy (Init key value)) × (event.turn ≡ Reply t (Data value))))
 

@@ -11,7 +11,7 @@ use Rattle.loom_engine.specs.Runs.Body.{Meaning, runs}
 pub record IsRunTree {A : Type 0} (tree : Tree A) : Type 0 where
   -- its questions have their default among their options
   pub sound : IsSoundTree tree
-  -- it comes to a value only where the run is over
+  -- it gives a value only where the run is over
   pub closing : IsClosing tree
   pub fair : IsFair tree
 

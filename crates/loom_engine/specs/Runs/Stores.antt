@@ -44,7 +44,7 @@ module _ {D : Type 0} where
   abbrev pub access_of : Course D → Event D → ℕ → Option AtomicOp
   access_of c event t = cond (t == c.world.active) (access_in event.op) (access_at (slice_get c.world.threads t))
 
-  -- what an access stores in atomic n of these numbers, where its thread is told this
+  -- what an access stores in atomic n of these numbers, where its thread's reply is this
   abbrev pub stored_by : Numbers → ℕ → AtomicOp → Reply D → List ℕ
   stored_by numbers n (atomic_op.Store m value order) told = cond (m == n) (fit numbers value ∷ []) []
   stored_by numbers n (atomic_op.Update m change order) (reply.Value read) = cond (m == n) (fit numbers (changed numbers change read) ∷ []) []

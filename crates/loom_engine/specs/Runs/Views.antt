@@ -27,7 +27,7 @@ GlobalPointLaw D = (max_threads max_steps : ℕ) (c v : Course D) (event : Event
 
 -- ---- where view containment is reaching
 
--- From the one state the machine may come to the other by some events, or it is that state.
+-- From the one state the machine may get to the other by some events, or it is that state.
 pub data GoesTo {D : Type 0} (c : Course D) : Course D → Type 0 where
   at_once : GoesTo c c
   on : (u : Course D) (event : Event D) (v : Course D) → GoesTo c u → Happens u event v → GoesTo c v

@@ -59,7 +59,7 @@ FreshLaw A = (s : Settings) (adds : Marking) (tree : Tree A) (runs : List (List 
     → IsWalkList (Reachable (machine_of s adds tree)) (choices_made runs)
     × (s.reduce ≡ false → IsInOrder (machine_of s adds tree) (choices_made runs))
 
--- Rounds that were stopped have made a part, and leave the other for the path that they came to.
+-- Rounds that were stopped have made a part, and leave the other for the path that they reached.
 abbrev pub PartLaw : Type 0 → Type 0
 PartLaw A = (s : Settings) (adds : Marking) (tree : Tree A) (p last : List Stored) (runs : List (List Choice × A)) → IsSoundTree tree → IsMarking adds
     → IsResting (machine_of s adds tree) p → Makes s adds tree p runs last → IsPart s adds tree p runs last
@@ -86,7 +86,7 @@ ReplayLaw A = (s : Settings) (adds : Marking) (tree : Tree A) (c : List Choice) 
     → (choices (drive s adds tree (following c)).1.nodes ≡ run (machine_of s adds tree) c)
     × (outcome s.max_branches tree (run (machine_of s adds tree) c) ≡ Some (drive s adds tree (following c)).0)
 
--- What the first run along a path comes to that was loaded: it has met each node of the path; or it parts from the path, and
+-- What the first run along a path does that was loaded: it has met each node of the path; or it parts from the path, and
 -- tells it apart, or has failed; then the choices that it has passed lead to that failure.
 pub data FirstRun {A : Type 0} (s : Settings) (adds : Marking) (tree : Tree A) (p : List Stored) (d : Result A FailureKind × Trail) : Type 0 where
   all_met : IsResting (machine_of s adds tree) p → FirstRun s adds tree p d
@@ -94,19 +94,19 @@ pub data FirstRun {A : Type 0} (s : Settings) (adds : Marking) (tree : Tree A) (
   fails_early : IsPartedAt (machine_of s adds tree) p (choices (take d.1.position d.1.nodes)) → (failure : FailureKind) → d.0 ≡ Err failure
       → outcome s.max_branches tree (choices (take d.1.position d.1.nodes)) ≡ Some (Err failure) → FirstRun s adds tree p d
 
--- The first run along any path of nodes at rest, no more than there may be, comes to one of these.
+-- The first run along any path of nodes at rest, no more than there may be, does one of these.
 abbrev pub FirstRunLaw : Type 0 → Type 0
 FirstRunLaw A = (s : Settings) (adds : Marking) (tree : Tree A) (p : List Stored) → IsSoundTree tree → IsMarking adds → IsClosing tree
     → ((before : List Choice) (n : Stored) → node_at p before ≡ Some n → IsAtRest n) → length p ≤ s.max_branches
     → FirstRun s adds tree p (drive s adds tree (at_start p))
 
--- What a path comes to that is to follow some choices: they are allowed; or one is no option or left over; or the run fails
+-- What a path does that is to follow some choices: they are allowed; or one is no option or left over; or the run fails
 -- before they are used up, and the choices that it has passed lead to that failure.
 pub data GivenRun {A : Type 0} (s : Settings) (adds : Marking) (tree : Tree A) (c : List Choice) (d : Result A FailureKind × Trail) : Type 0 where
   all_allowed : IsAllowed (machine_of s adds tree) c → GivenRun s adds tree c d
   refused : d.0 ≡ Err NotDeterministic → GivenRun s adds tree c d
   fails_before : (failure : FailureKind) → d.0 ≡ Err failure → outcome s.max_branches tree (choices d.1.nodes) ≡ Some (Err failure) → GivenRun s adds tree c d
 
--- A path that is to follow any choices comes to one of these.
+-- A path that is to follow any choices does one of these.
 abbrev pub GivenLaw : Type 0 → Type 0
 GivenLaw A = (s : Settings) (adds : Marking) (tree : Tree A) (c : List Choice) → IsSoundTree tree → IsClosing tree → GivenRun s adds tree c (drive s adds tree (following c))

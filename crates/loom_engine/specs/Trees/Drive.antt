@@ -92,7 +92,7 @@ module _ {A : Type 0} where
   drive_on go (Ok choice, after) = go choice after
   drive_on go (Err failure, after) = (Err failure, after)
 
-  -- the way through a tree that a path takes: what it comes to, and the path after it
+  -- the way through a tree that a path takes: its outcome, and the path after it
   abbrev pub drive : Settings → Marking → Tree A → Trail → Result A FailureKind × Trail
   drive s adds (Gives value) path = (Ok value, path)
   drive s adds (Fails failure) path = (Err failure, path)
@@ -109,7 +109,7 @@ abbrev pub at_end : List Stored → Trail
 at_end nodes = record { nodes = nodes; position = length nodes; given = [] }
 
 module _ {A : Type 0} (s : Settings) (adds : Marking) (tree : Tree A) where
-  -- A path that drives through the tree comes to what its run comes to, and is left as it is to be after that run.
+  -- A path that drives through the tree has the outcome of its run, and is left as it is to be after that run.
   pub record IsDriven (nodes : List Stored) : Type 0 where
     pub comes : Result A FailureKind
     pub drives : drive s adds tree (at_start nodes) ≡ (comes, at_end (after_run (machine_of s adds tree) nodes))

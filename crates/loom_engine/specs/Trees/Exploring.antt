@@ -4,7 +4,7 @@ use Rattle.loom_objects.specs.declared.choice.Choice.{Choice}
 use Rattle.loom_objects.specs.Tree.Question.{Among, made_of}
 use Rattle.loom_objects.specs.Tree.Tree.{Tree, Gives, Fails, Closes, Asks}
 
--- each question that a run comes to explores
+-- each question that a run meets explores
 abbrev pub ExploresTree : {A : Type 0} → Tree A → Type 0
 ExploresTree (Gives value) = Unit {0}
 ExploresTree (Fails failure) = Unit {0}

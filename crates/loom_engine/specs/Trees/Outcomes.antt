@@ -1,4 +1,4 @@
--- Which nodes a run through a tree meets, and what it comes to.
+-- Which nodes a run through a tree meets, and its outcome.
 use Rattle.std.specs.Prelude.{ℕ, zero, suc, ◌≡◌, Bool, true, false, List, [], ◌∷◌, map, Option, Some, None, Result, Ok, Err}
 use Rattle.loom_objects.specs.declared.choice.Choice.{Choice}
 use Rattle.loom_objects.specs.Tree.Question.{Made, made_of}
@@ -18,7 +18,7 @@ module _ {A : Type 0} where
   met (suc room) (Asks question branch) [] = Some (made_of question)
   met (suc room) (Asks question branch) (x ∷ c) = pick (among x (made_of question).options) (met room (branch x) c) None
 
-  -- what the run comes to that meets just as many nodes as there are choices, each an option where it comes
+  -- the outcome of the run that meets just as many nodes as there are choices, each an option where it comes
   abbrev pub outcome : ℕ → Tree A → List Choice → Option (Result A FailureKind)
   outcome room (Gives value) [] = Some (Ok value)
   outcome room (Gives value) (x ∷ c) = None
@@ -38,7 +38,7 @@ module _ {A : Type 0} where
   passed (Asks question branch) [] = []
   passed (Asks question branch) (x ∷ c) = (made_of question, x) ∷ passed (branch x) c
 
-  -- these choices are those of a run of at most so many nodes, which comes to this value
+  -- these choices are those of a run of at most so many nodes, which ends with this value
   abbrev pub IsRun : ℕ → Tree A → List Choice × A → Type 0
   IsRun room tree made = outcome room tree made.0 ≡ Some (Ok made.1)
 

@@ -12,7 +12,7 @@ module _ {A : Type 0} where
   abbrev pub before : Choice → List Choice × Result A FailureKind → List Choice × Result A FailureKind
   before choice rest = (choice ∷ rest.0, rest.1)
 
-  -- The run that takes these choices and then defaults: the choices that it made, and what it came to. A choice that is
+  -- The run that takes these choices and then defaults: the choices that it made, and its outcome. A choice that is
   -- no option where it comes, or that is left over when the run is over, ends it. The number bounds the nodes to come.
   abbrev pub replayed : ℕ → Tree A → List Choice → List Choice × Result A FailureKind
   replayed room (Gives value) given = ([], Ok value)

@@ -27,7 +27,7 @@ module _ {A : Type 0} (s : Settings) (adds : Marking) (tree : Tree A) where
 abbrev pub ReplayFollowsLaw : Type 0 → Type 0
 ReplayFollowsLaw A = (s : Settings) (adds : Marking) (tree : Tree A) (given : List Choice) → FollowsReplay s adds tree given
 
--- Choices that are options where they come replay as the run that begins with them, to what it comes to; and the choices
+-- Choices that are options where they come replay as the run that begins with them, to its outcome; and the choices
 -- of a whole run replay to just that run.
 abbrev pub AllowedReplayLaw : Type 0 → Type 0
 AllowedReplayLaw A = (s : Settings) (adds : Marking) (tree : Tree A) (given : List Choice) → IsSoundTree tree → IsMarking adds

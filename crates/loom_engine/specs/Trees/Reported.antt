@@ -14,11 +14,11 @@ use Rattle.loom_engine.specs.Trees.Replay.{replayed}
 module _ {A : Type 0} (s : Settings) (adds : Marking) (tree : Tree A) where
   -- these are the reachable runs, all of them
   pub record AreReachable (list : List (List Choice)) : Type 0 where
-    -- each stands there once, and those that share a beginning stand together
+    -- each is there once, and those that share a beginning are together
     pub walk : IsWalkList (Reachable (machine_of s adds tree)) list
-    -- in a search that isn't reduced they stand in order, bounded or not
+    -- in a search that isn't reduced they are in order, bounded or not
     pub in_order : s.reduce ≡ false → IsInOrder (machine_of s adds tree) list
-    -- with neither reduction nor a bound, and where the tree explores throughout, they are what the tree can come to
+    -- with neither reduction nor a bound, and where the tree explores throughout, they are all the tree's runs
     pub every_run : s.reduce ≡ false → s.bound ≡ None → ExploresTree tree
         → (x : List Choice) → Reachable (machine_of s adds tree) x ↔ ((o : Result A FailureKind) × (outcome s.max_branches tree x ≡ Some o))
     -- under a bound none of them counts more preemptions at any of its nodes

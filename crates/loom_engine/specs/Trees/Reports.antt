@@ -39,7 +39,7 @@ abbrev pub StoppedReportLaw : Type 0 → Type 0
 StoppedReportLaw A = (s : Settings) (adds : Marking) (tree : Tree A) (runs : List (List Choice × A)) (last : List Stored) → IsSearch s adds tree → Makes s adds tree [] runs last
     → WasStopped s adds tree runs
 
--- Rounds after which a run fails have made the reachable runs before it, and it stands next. Its choices lead to its failure
+-- Rounds after which a run fails have made the reachable runs before it, and it is next. Its choices lead to its failure
 -- again, which isn't that the path doesn't meet the tree.
 abbrev pub FailedReportLaw : Type 0 → Type 0
 FailedReportLaw A = (s : Settings) (adds : Marking) (tree : Tree A) (runs : List (List Choice × A)) (last : List Stored) (failure : FailureKind) (path : Trail) → IsSearch s adds tree → IsFair tree

@@ -117,7 +117,7 @@ FailedFromLaw A = (s : Settings) (adds : Marking) (tree : Tree A) (p : List Stor
     → IsSearch s adds tree → IsClosing tree → IsFair tree → AreAtRest p → length p ≤ s.max_branches
     → Makes s adds tree p runs last → drive s adds tree (at_start last) ≡ (Err failure, path) → HasFailedFrom s adds tree p runs failure (choices_passed path)
 
--- Where a check goes on with the path that another came to, their runs are what one check makes.
+-- Where a check goes on with the path that another reached, their runs are what one check makes.
 abbrev pub JoinedLaw : Type 0 → Type 0
 JoinedLaw A = (s : Settings) (adds : Marking) (tree : Tree A) (p middle : List Stored) (runs more : List (List Choice × A)) → Makes s adds tree p runs middle
     → ((last : List Stored) → Makes s adds tree middle more last → Makes s adds tree p (runs ++ more) last)

@@ -1,4 +1,4 @@
--- Runs that go on from where an earlier run stood: a path that begins as that one's did needn't be driven through the tree from its
+-- Runs that go on from where an earlier run was: a path that begins as that one's did needn't be driven through the tree from its
 -- beginning.
 use Rattle.std.specs.Prelude.{ℕ, ◌≡◌, List, [], ◌∷◌, length}
 use Rattle.loom_objects.specs.Tree.Tree.{Tree}

@@ -15,7 +15,7 @@ IsQuiet (Fails failure) = Unit {0}
 IsQuiet (Closes rest) = IsQuiet rest
 IsQuiet (Asks question branch) = ⊥
 
--- each question that a run comes to is sound, and once the run is over it asks nothing
+-- each question that a run meets is sound, and once the run is over it asks nothing
 abbrev pub IsSoundTree : {A : Type 0} → Tree A → Type 0
 IsSoundTree (Gives value) = Unit {0}
 IsSoundTree (Fails failure) = Unit {0}

@@ -8,7 +8,7 @@ abbrev pub Member : List Choice → List (List Choice) → Type 0
 Member x [] = ⊥
 Member x (y ∷ list) = (x ≡ y) ⊎ Member x list
 
--- no run stands in the list twice
+-- no run is in the list twice
 abbrev pub IsOnce : List (List Choice) → Type 0
 IsOnce [] = Unit {0}
 IsOnce (x ∷ list) = (Member x list → ⊥) × IsOnce list
@@ -43,7 +43,7 @@ abbrev pub StandsBefore : Choice → Choice → List Choice → Type 0
 StandsBefore a b [] = ⊥
 StandsBefore a b (o ∷ os) = ((a ≡ o) × Among b os) ⊎ StandsBefore a b os
 
--- the default first, then the others as they stand: rising threads, rising slots, false before true
+-- the default first, then the others as they are listed: rising threads, rising slots, false before true
 abbrev pub ComesFirst : Made → Choice → Choice → Type 0
 ComesFirst n a b = (b ≢ n.default) × ((a ≡ n.default) ⊎ StandsBefore a b n.options)
 

@@ -11,7 +11,7 @@ abbrev pub mark_with : (ℕ → Choice → Bool) → ℕ → List Stored → Lis
 mark_with marks k [] = []
 mark_with marks k (n ∷ p) = record n { status = λ o. mark_status (marks k o) (n.status o) } ∷ mark_with marks (suc k) p
 
--- The run that follows the path p has made the choices c and the marks so far, and the path has come to be q.
+-- The run that follows the path p has made the choices c and the marks so far, and the path is q now.
 pub data IsUnderWay (m : Machine) (p : List Stored) : List Choice → (ℕ → Choice → Bool) → List Stored → Type 0 where
   begins : IsUnderWay m p [] (λ k o. false) p
   -- it follows a stored node, which is the one that it meets

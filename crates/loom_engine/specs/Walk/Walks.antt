@@ -53,7 +53,7 @@ CompleteLaw = (m : Machine) (p : List Stored) (list : List (List Choice)) → Is
     → IsWalkList (Rest m p) list × ((x : List Choice) → Rest m p x → m.fails x ≡ false)
 
 -- Rounds that were stopped have made a part of what is left from the path, and what is left from the path that they
--- came to is the other part.
+-- reached is the other part.
 abbrev pub StoppedLaw : Type 0
 StoppedLaw = (m : Machine) (p p' : List Stored) (list : List (List Choice)) → IsMachine m → IsResting m p → Rounds m p list p' → IsStopped m p list p'
 
@@ -96,7 +96,7 @@ digits (suc k) (n ∷ p) = visited_in n.status n.made.options * 8 ^ k + digits k
 abbrev pub progress : Machine → List Stored → ℕ
 progress m p = digits m.limit p
 
--- Each round makes progress, of which there is an end. So a walk comes to its last round, or to a run that fails.
+-- Each round makes progress, of which there is an end. So a walk reaches its last round, or a run that fails.
 abbrev pub EndsLaw : Type 0
 EndsLaw = (m : Machine) (p : List Stored) → IsMachine m → IsResting m p
     → (progress m p < 8 ^ m.limit)

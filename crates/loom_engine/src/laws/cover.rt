@@ -1,4 +1,4 @@
-//! Laws of a search that remembers states: what it has covered when nothing is left to be tried. The definitions stand in
+//! Laws of a search that remembers states: what it has covered when nothing is left to be tried. The definitions are in
 //! `specs/Covering`.
 ghost use Rattle.loom_engine.specs.Begun.{BeginningLaw};
 ghost use Rattle.loom_engine.specs.Covering.Cut.{CheckLaw, FailLaw, JoinedLaw, ThenLaw};
@@ -17,7 +17,7 @@ pub fn check_covers<A, K>()
     ensures { CheckLaw A K }
 {}
 
-/// Where each state that such a check has met has a way to an end, each run can come to one, limits aside (own).
+/// Where each state that such a check has met has a way to an end, each run can reach one, limits aside (own).
 pub fn ways_lead_to_ends<A, K>()
     ensures { WaysLaw A K }
 {}
@@ -98,7 +98,7 @@ pub fn body_can_end<D, S>()
     ensures { BodyEndsLaw D S }
 {}
 
-/// An operation that is begun goes on from its branch point to what the whole event comes to (own).
+/// An operation that is begun goes on from its branch point to the whole event's outcome (own).
 pub fn events_go_on_from_branch_points<D>()
     ensures { BeginningLaw D }
 {}
@@ -123,7 +123,7 @@ pub fn paths_keep_nodes<A>()
     ensures { NodesLaw A }
 {}
 
-/// Where the same is kept of two runs that stand at branch points, they are in the same state (own).
+/// Where the same is kept of two runs that are at branch points, they are in the same state (own).
 pub fn kept_tells_the_state<D, S>()
     ensures { KeptLaw D S }
 {}

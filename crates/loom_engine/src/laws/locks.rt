@@ -1,4 +1,4 @@
-//! The laws of locks over every history. The definitions stand in `specs/Runs/Histories.antt`.
+//! The laws of locks over every history. The definitions are in `specs/Runs/Histories.antt`.
 ghost use Rattle.loom_engine.specs.Runs.Histories.{LocksLaw, OneHolderLaw};
 
 /// In each state in which a history of operations may leave the machine: a mutex that a thread holds keeps no data that

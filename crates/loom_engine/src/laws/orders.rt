@@ -1,4 +1,4 @@
-//! The laws of an atomic's orders, over every history whose choices are options. The definitions stand in `specs/Runs/Orders.antt`.
+//! The laws of an atomic's orders, over every history whose choices are options. The definitions are in `specs/Runs/Orders.antt`.
 ghost use Rattle.loom_engine.specs.Runs.Orders.{OnceLaw, OrdersLaw, ReadableMovesLaw, SlotLaw, UnequalLaw, UnequalRunsLaw};
 
 /// Moves that read what may be read lead to the points of each state in which such a history may leave the machine, and by each

@@ -34,7 +34,7 @@ pub fn floors()
     ensures end { EndLaw }
 {}
 
-/// What a program does that keeps its parts as paths with floors, and its notes as what stands below these, is such a search.
+/// What a program does that keeps its parts as paths with floors, and its notes as what lies below these, is such a search.
 pub fn work_in_parts()
     ensures { WorkLaw }
 {}

@@ -1,4 +1,4 @@
-//! Laws of what a check reports, and of runs that are replayed. The definitions stand in `specs/Trees/Reports.antt`,
+//! Laws of what a check reports, and of runs that are replayed. The definitions are in `specs/Trees/Reports.antt`,
 //! `specs/Trees/Resuming.antt` for a check that begins with a path, and `specs/Trees/Replay.antt`.
 ghost use Rattle.loom_engine.specs.Trees.Replays.{AllowedReplayLaw, NoSuchFailureLaw, ReplayFollowsLaw};
 ghost use Rattle.loom_engine.specs.Trees.Reports.{CompleteReportLaw, FailedReportLaw, RefusedReplayLaw, SearchLaw, StoppedReportLaw};
@@ -50,7 +50,7 @@ pub fn complete_from_path<A>()
     ensures { CompleteFromLaw A }
 {}
 
-/// A check that began with a path and was stopped has made a part of what was left, and the path that it came to leaves the other.
+/// A check that began with a path and was stopped has made a part of what was left, and the path that it reached leaves the other.
 pub fn stopped_from_path<A>()
     ensures { StoppedFromLaw A }
 {}

@@ -1,4 +1,4 @@
-//! Laws of the runs of a body. The definitions stand in `specs/Runs`: small bodies in `Examples.antt`, and what a reduced search
+//! Laws of the runs of a body. The definitions are in `specs/Runs`: small bodies in `Examples.antt`, and what a reduced search
 //! makes of some in `ReducedExamples.antt`.
 ghost use Rattle.loom_engine.specs.Runs.Growth.{GrowthLaw};
 ghost use Rattle.loom_engine.specs.Runs.Once.{MadeOnceLaw};
@@ -7,7 +7,7 @@ ghost use Rattle.loom_engine.specs.Runs.ReducedExamples.{ReducedRowsLaw};
 ghost use Rattle.loom_engine.specs.Runs.Examples.{RowsLaw, SharedRowsLaw};
 ghost use Rattle.loom_engine.specs.Runs.Sound.{RunTreeLaw, ExploresLaw, UnchosenLaw};
 
-/// The runs of each body are a tree with sound questions. It comes to a value only where the run is over, and asks nothing
+/// The runs of each body are a tree with sound questions. It gives a value only where the run is over, and asks nothing
 /// after that. No run fails because a path doesn't meet it.
 pub fn runs_are_sound<D, S>()
     ensures { RunTreeLaw D S }
@@ -41,7 +41,7 @@ pub fn lazy_values_are_made_once<D>()
     ensures { MadeOnceLaw D }
 {}
 
-/// Runs of small bodies come to main's value, to a deadlock, or to too many nodes or steps.
+/// Runs of small bodies end with main's value, with a deadlock, or with too many nodes or steps.
 pub fn example_bodies()
     ensures { RowsLaw }
 {}

@@ -1,4 +1,4 @@
-//! Laws of trees of runs: what a path that drives through one has to do with a walk. The definitions stand in
+//! Laws of trees of runs: what a path that drives through one has to do with a walk. The definitions are in
 //! `specs/Trees`.
 ghost use Rattle.loom_engine.specs.Trees.Check.{CompleteLaw, EndLaw, FailureLaw, FirstRunLaw, FreshLaw, GivenLaw, PartLaw, ReplayLaw};
 ghost use Rattle.loom_engine.specs.Trees.Drive.{DriveLaw};

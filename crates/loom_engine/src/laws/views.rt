@@ -1,4 +1,4 @@
-//! The laws of views over every history: what is proved of moves of points holds of runs. The definitions stand in
+//! The laws of views over every history: what is proved of moves of points holds of runs. The definitions are in
 //! `specs/Runs/Views.antt`, and in `specs/Runs/Loads.antt` and `specs/Runs/Stores.antt` for what is loaded and stored.
 ghost use Rattle.loom_engine.specs.Runs.Loads.{LoadLaw};
 ghost use Rattle.loom_engine.specs.Runs.Stores.{MutationLaw, StoresLaw};

@@ -1,5 +1,5 @@
 //! Laws of a depth-first walk over the runs of a machine: what is left of it at each moment, and that it makes each run
-//! once. The definitions stand in `specs/Walk`.
+//! once. The definitions are in `specs/Walk`.
 ghost use Rattle.loom_engine.specs.Walk.Bound.{BoundLaw};
 ghost use Rattle.loom_engine.specs.Walk.Driven.{DrivenLaw, NoSkipLaw};
 ghost use Rattle.loom_engine.specs.Walk.Example.{ExampleLaw};
@@ -56,7 +56,7 @@ pub fn run_over()
     ensures { OverLaw }
 {}
 
-/// A run that follows a path whose nodes the machine meets never comes to another node, and leaves none over.
+/// A run that follows a path whose nodes the machine meets never meets another node, and leaves none over.
 pub fn run_meets()
     ensures { MeetingLaw }
 {}

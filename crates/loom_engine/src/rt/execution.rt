@@ -3,7 +3,7 @@
 //!
 //! How far an operation came is answered at each of these. `Entry` says it at its beginning: it is answered at once, or there is
 //! something to be chosen first. `Resumed` says it once the chosen thread has gone on: the effect is there, or a load asks which
-//! store it reads. `Passed` says it of the effect: a turn, or the thread has come to another branch point. `Turn` is what the
+//! store it reads. `Passed` says it of the effect: a turn, or the thread has reached another branch point. `Turn` is what the
 //! caller is answered.
 pub mod drawing;
 
@@ -90,7 +90,7 @@ pub struct Limits {
 pub enum Begun<D> {
     /// It had no branch point, and this is the next turn.
     Turn(Turn<D>),
-    /// It has come to its branch point, at which `Execution::schedule` goes on.
+    /// It has reached its branch point, at which `Execution::schedule` goes on.
     AtBranch,
 }
 

@@ -454,7 +454,7 @@ impl Path {
     }
 
     /// Passes the load at the position, and answers the slot of the store that is read. `NotDeterministic`, and nothing
-    /// changes, where no load stands there.
+    /// changes, where no load is there.
     #[inline(always)]
     pub fn branch_load(&mut self) -> Result<u8, Stop>
         ensures { PassesLoad self.old result self.new }

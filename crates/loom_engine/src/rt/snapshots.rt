@@ -1,4 +1,4 @@
-//! Runs that are kept where they stood at branch points, so that later ones whose paths begin as theirs did go on from there (own).
+//! Runs that are kept at branch points, so that later ones whose paths begin as theirs did go on from there (own).
 ghost use Rattle.std.specs.Prelude.{ℕ, ◌≡◌, ◌<◌, ◌≤◌, ◌⊎◌, [], All, IfOk, length, take};
 ghost use Rattle.loom_engine.specs.Path.Route.{IsSameSearch};
 ghost use Rattle.loom_engine.specs.Snapshots.{Fits, GoesOn, GoesOnWithOne, IsKeptOf, KeepsOne};
@@ -15,7 +15,7 @@ use std::alloc::{AllocError, Global};
 use std::marker::Model;
 use std::mem;
 
-/// What is kept of a run that stood at a branch point, before its schedule (own).
+/// What is kept of a run at a branch point, before its schedule (own).
 #[derive(Drop)]
 pub struct Snapshot<D, B> {
     execution: Execution<D>,
@@ -151,7 +151,7 @@ impl<D: Drop, B: Drop> Snapshots<D, B> {
         self.spare.clear();
     }
 
-    /// Those are left that stand before this place of their path, up to the first that doesn't.
+    /// Those are left that are before this place of their path, up to the first that isn't.
     pub fn keep_before(&mut self, place: usize)
         ensures fewer { (count : ℕ) × (self.new ≡ take count self.old) }
         ensures before { All (λ kept. kept.standing.position < place) self.new }
@@ -162,7 +162,7 @@ impl<D: Drop, B: Drop> Snapshots<D, B> {
 }
 
 impl<D: Data + Same, B: Body> Snapshots<D, B> {
-    /// Keeps one more, of the run that stands there. An error where memory is refused.
+    /// Keeps one more, of the run that is there. An error where memory is refused.
     pub fn keep(
         &mut self,
         execution: &Execution<D>,
@@ -246,7 +246,7 @@ impl<D: Data + Same, B: Body> Snapshots<D, B> {
     }
 }
 
-/// How many of them stand before this place of their path, up to the first that doesn't.
+/// How many of them are before this place of their path, up to the first that isn't.
 fn count_before<D, B>(list: &[Snapshot<D, B>], place: usize) -> usize
     ensures { All (λ kept. kept.standing.position < place) (take result list.now) }
 {

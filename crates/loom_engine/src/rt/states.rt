@@ -1,4 +1,4 @@
-//! States that a search remembers: copies of where runs stood at branch points, with which later runs are compared.
+//! States that a search remembers: copies of runs at branch points, with which later runs are compared.
 pub(crate) mod shelves;
 pub mod ways;
 
@@ -34,7 +34,7 @@ use loom_views::shelf::{Shared, are_shared};
 use std::alloc::{AllocError, Global};
 use std::marker::Model;
 
-/// What is kept of a run that stands at a branch point at which its search explores. Its parts are shared with states that have
+/// What is kept of a run at a branch point at which its search explores. Its parts are shared with states that have
 /// the same ones (own).
 #[derive(Drop)]
 pub struct State<D, B> {
@@ -105,7 +105,7 @@ impl<D: Data + Same, B: Body + Same> State<D, B> {
         are_yields_same(&self.yields, &yields)
     }
 
-    /// Whether the run stands in this state, with these views in place of its own.
+    /// Whether the run is in this state, with these views in place of its own.
     #[tactic(auto, using(crate::proofs::Covering::Kept::is_state_in))]
     fn is_at(
         &self,
@@ -160,7 +160,7 @@ pub(crate) fn copied_bodies<B: Body>(alloc: Global, bodies: &[B]) -> Result<Sequ
     Ok(Sequence::from_vec(copy))
 }
 
-/// The states that a search has noted, at most so many of them, each with the choices by which a run came to it. Where no more may be,
+/// The states that a search has noted, at most so many of them, each with the choices that led a run to it. Where no more may be,
 /// none is noted, and those that were are still found. Of a body that is known never to switch whether the search explores they are told
 /// apart by less (own).
 #[derive(Drop)]
@@ -172,7 +172,7 @@ pub struct States<D, B> {
     shelves: Shelves<D, B>,
     // views that were written for a look-up, in whose room the next one writes its own
     spare: Option<RankedViews>,
-    // the choices by which a run came to the last one
+    // the choices that led a run to the last one
     made: Option<ChoiceList>,
     most: usize,
     never_switches: bool,
@@ -242,14 +242,14 @@ impl<D: Data + Same, B: Body + Same> States<D, B> {
         self.states.len()
     }
 
-    /// By which choices a run came to each state that was noted.
+    /// Which choices led a run to each state that was noted.
     pub fn led_by(&self) -> &[Sequence<Choice>]
         ensures { result.now ≡ self.now.led_by }
     {
         self.led_by.as_slice()
     }
 
-    /// The number of the state that the run is in, which came to it along the path, if it was noted: in another table, or behind its states
+    /// The number of the state that the run is in, which reached it along the path, if it was noted: in another table, or behind its states
     /// in this one. Otherwise it is noted here, if there may be one more. It is known by views by the ranks of their counts, in place of its
     /// own. An error where memory is refused.
     pub fn look_up(
@@ -355,7 +355,7 @@ impl<D: Data + Same, B: Body + Same> States<D, B> {
         None
     }
 
-    /// Notes the state of the run, which came to it along the path, with these views in place of its own, whose digest is this, if
+    /// Notes the state of the run, which reached it along the path, with these views in place of its own, whose digest is this, if
     /// there may be one more. An error where memory is refused.
     fn note(
         &mut self,
@@ -411,7 +411,7 @@ impl<D: Data + Same, B: Body + Same> States<D, B> {
         )
     }
 
-    /// Adds the states of another table, as far as there may be more (own). One that both tables have then stands here twice. An error
+    /// Adds the states of another table, as far as there may be more (own). One that both tables have is here twice then. An error
     /// where memory is refused.
     pub fn join(&mut self, other: States<D, B>) -> Result<(), AllocError>
         ensures { IfOk result (λ _. (never : Bool) (key : List Chosen → Key D B) (left : List (List Stored)) → IsTableOf never key left self.old → IsTableOf never key left other → IsTableOf never key left self.new) }

@@ -17,13 +17,13 @@ reports_of : (checked : Checked) (b : Builder) (report : Report) → ReportsAlon
 reports_of (Script steps) b report r = r
 reports_of (Updater one other) b report r = r
 
--- nothing stands behind the line
+-- nothing is behind the line
 printed_alone : (checked : Checked) (settings : Settings) (file old new : Option (List ℕ)) (status : ℕ)
     → PrintedTask Check false checked settings file old new status → PrintedChecked checked settings file old new status
 printed_alone checked settings file old new status (b, i, (report, r, (mid, p, behind))) =
     (b, i, (report, reports_of checked b report r, subst (λ bytes. PrintedOf report old bytes status) (sym (behind refl)) p))
 
--- nothing stands behind the line, where the status may be 2, of a result
+-- nothing is behind the line, where the status may be 2, of a result
 pub checked_alone : {E : Type 0} (checked : Checked) (settings : Settings) (file old new : Option (List ℕ)) (answer : Result ℕ E)
     → IfOk answer (λ status. (status ≡ 2) ⊎ PrintedTask Check false checked settings file old new status)
     → IfOk answer (λ status. (status ≡ 2) ⊎ PrintedChecked checked settings file old new status)

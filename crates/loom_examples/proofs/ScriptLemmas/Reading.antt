@@ -20,7 +20,7 @@ positions p f xs =
     ap (λ n. cond (nat_lt n (length (map f xs))) (Some n) None) (prefixes (λ y. not (p y)) f xs)
     ∙ ap (λ n. cond (nat_lt (position_or_len (λ x. p (f x)) xs) n) (Some (position_or_len (λ x. p (f x)) xs)) None) (length-map xs f)
 
--- where the label of this name stands
+-- where the label of this name is
 label_stands : (steps : List Step) (name : List ℕ) (found : Option ℕ) → found ≡ position (λ step. is_label name (written step)) steps → found ≡ label_at (map written steps) name
 label_stands steps name found e = e ∙ sym (positions (is_label name) written steps)
 
@@ -38,7 +38,7 @@ both : (f : Written → ℕ) (steps : List Step) → map (λ step. f (written st
 both f [] = refl
 both f (step ∷ steps) = ap (λ rest. f (written step) ∷ rest) (both f steps)
 
--- where the labels stand that steps name
+-- where the labels are that steps name
 pub names : (steps : List Step) (places : List ℕ) → places ≡ map (λ step. named_place (map written steps) (Some (written step))) steps
     → places ≡ map (λ step. named_place (map written steps) (Some step)) (map written steps)
 names steps places e = e ∙ both (λ step. named_place (map written steps) (Some step)) steps

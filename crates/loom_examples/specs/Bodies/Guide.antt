@@ -23,7 +23,7 @@ abbrev pub counts : ℕ → ℕ → ℕ → Awaits × Op ℕ Counter
 counts fewer_than mutex count =
     cond (nat_lt count fewer_than) (Leaving (count + 1) left.Finish, bare (OnMutex (Release mutex (count + 1)))) (Nothing, bare Fail)
 
--- a thread that holds the mutex, or was told something else
+-- a thread that holds the mutex, or got another reply
 abbrev pub held : ℕ → Option (MutexGuard × ℕ) → Awaits × Op ℕ Counter
 held fewer_than (Some found) = counts fewer_than found.0.number found.1
 held fewer_than None = (Nothing, bare Fail)

@@ -1,4 +1,4 @@
--- What bytes tell of steps. A step's kind comes first, then where it keeps what it is told, three numbers, and how long its text is;
+-- What bytes tell of steps. A step's kind comes first, then where it keeps its reply, three numbers, and how long its text is;
 -- its text comes last.
 use Rattle.std.specs.Prelude.{ℕ, ◌==◌, ◌≡◌, ◌++◌, List, [], ◌∷◌, Option, Some, None, cond, take, drop}
 use Rattle.std.specs.declared.sync.atomic.Ordering.{Ordering}
@@ -13,7 +13,7 @@ use Rattle.loom_examples.specs.declared.scripts.step.Value.TheVariants.{Plain}
 abbrev pub order_of : ℕ → Ordering
 order_of n = cond (n == 0) Relaxed (cond (n == 1) Release (cond (n == 2) Acquire (cond (n == 3) AcqRel SeqCst)))
 
--- the step of this kind, which keeps what it is told here, with three numbers and a text
+-- the step of this kind, which keeps its reply here, with three numbers and a text
 abbrev pub step_of : ℕ → ℕ → ℕ → ℕ → ℕ → List ℕ → Option Written
 step_of kind keep a b c text =
     cond (kind == 1) (Some (Do keep (Atomic (New U64 a))))

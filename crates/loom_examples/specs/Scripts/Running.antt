@@ -41,7 +41,7 @@ is_label name (IfTo register n other) = false
 is_label name (UnlessTo register n other) = false
 is_label name (SpawnAt slot other) = false
 
--- where the first label of this name stands
+-- where the first label of this name is
 abbrev pub label_at : List Written → List ℕ → Option ℕ
 label_at steps name = position (is_label name) steps
 
@@ -49,11 +49,11 @@ abbrev pub or_end : Option ℕ → List Written → ℕ
 or_end None steps = length steps
 or_end (Some place) steps = place
 
--- where the first label of this name stands; without one, the steps' end
+-- where the first label of this name is; without one, the steps' end
 abbrev pub place_of : List Written → List ℕ → ℕ
 place_of steps name = or_end (label_at steps name) steps
 
--- where the label stands that the step names; where it names none, the steps' end
+-- where the label is that the step names; where it names none, the steps' end
 abbrev pub named_place : List Written → Option Written → ℕ
 named_place steps (Some (JumpTo name)) = place_of steps name
 named_place steps (Some (IfTo register n name)) = place_of steps name
@@ -91,11 +91,11 @@ abbrev pub landing_from : List Written → State → Option Written → ℕ
 landing_from steps s None = s.at
 landing_from steps s (Some step) = past_label steps (goes_on_at steps s step)
 
--- where the next step stands, behind a jump and a label
+-- where the next step is, behind a jump and a label
 abbrev pub landing : List Written → State → ℕ
 landing steps s = landing_from steps s (slice_get steps s.at)
 
--- the slot, or the register, in which the step keeps what it is told
+-- the slot, or the register, in which the step keeps its reply
 abbrev pub keep_of : Written → ℕ
 keep_of (Do keep made) = keep
 keep_of (Labelled keep made called) = keep

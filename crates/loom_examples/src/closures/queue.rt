@@ -73,7 +73,7 @@ fn take<R: Wait>(handle: &mut Handle<u64, R>, queue: &Queue) -> Result<u64, Stop
     turn_to(handle, queue, 0)
 }
 
-/// Waits until the queue holds something other than so many items. Then it holds so many, and the change is told.
+/// Waits until the queue holds something other than so many items. Then it holds so many, and waiters are notified.
 fn turn_to<R: Wait>(handle: &mut Handle<u64, R>, queue: &Queue, count: u64) -> Result<u64, Stop> {
     let (guard, items) = handle.lock(&queue.items)?;
     let (guard, _) = handle.wait_while(&queue.changed, guard, items, |items| *items == count)?;

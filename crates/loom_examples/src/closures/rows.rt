@@ -257,7 +257,7 @@ impl ClosureRow {
         )
     }
 
-    /// Makes runs of a part of the row's search, by these settings, and says what that came to.
+    /// Makes runs of a part of the row's search, by these settings, and gives the outcome.
     pub(crate) fn check_part<R: Host, C: Clock>(
         self,
         rt: &R,

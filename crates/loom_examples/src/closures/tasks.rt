@@ -8,7 +8,7 @@ use crate::rows::options::RowAsked;
 use crate::rows::parted::Parted;
 use crate::rows::shares::ONE_COVERS;
 use crate::rows::tasks::Task;
-use crate::rows::walks::{SHORTENING_RUNS, failing_in, print_shortened, print_walked};
+use crate::rows::walks::{ONE_WALKS, SHORTENING_RUNS, failing_in, print_shortened, print_walked};
 use crate::rows::words::{refuse, refuse_choices};
 use log::Log;
 use loom::model::builder::Builder;
@@ -70,6 +70,8 @@ fn refusal(asked: &RowAsked) -> Option<&'static str> {
         Some("error: only the program shares a check out")
     } else if asked.covers.is_some() && asked.jobs.is_some() {
         Some(ONE_COVERS)
+    } else if asked.walk.is_some() && asked.jobs.is_some() {
+        Some(ONE_WALKS)
     } else if asked.changes.snapshots.is_some() {
         Some(NO_SNAPSHOTS)
     } else {

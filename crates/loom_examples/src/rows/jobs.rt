@@ -1,5 +1,7 @@
-//! What the program does with a row by several workers: it checks it, or covers it, and keeps the list of parts in the checkpoint file.
+//! What the program does with a row by several workers: it checks it, or covers it, and keeps the list of parts in the checkpoint file; or it
+//! walks through it.
 pub(crate) mod covering;
+pub mod walking;
 
 use crate::measured::row_or_body;
 use crate::rows::jobs::covering::cover;

@@ -226,7 +226,7 @@ pub(crate) fn of_covered(
     }
 }
 
-/// In a word what a check that remembers states came to, and how many runs ended, how many were given up, and how many states were noted.
+/// In a word the outcome of a check that remembers states, and how many runs ended, how many were given up, and how many states were noted.
 fn counts_of(covered: &Covered) -> (&'static str, u64, u64, usize) {
     match covered {
         Covered::Complete { runs, met, states } => ("complete", *runs, *met, *states),

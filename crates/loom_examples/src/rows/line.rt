@@ -7,7 +7,7 @@ use loom::Choice;
 use loom::model::Report;
 use std::fmt;
 
-/// Choices, each after a space: they stand at the end of a line.
+/// Choices, each after a space: they end a line.
 #[derive(Clone, Copy)]
 pub struct SpacedChoices<'a>(pub &'a [Choice]);
 

@@ -11,7 +11,7 @@ use loom::model::cover::MOST_STATES;
 use std::alloc::{AllocError, Global};
 use std::time::Duration;
 
-/// What stands behind an option's name.
+/// What follows an option's name.
 #[derive(Clone, Copy)]
 enum Takes {
     /// Nothing.
@@ -31,7 +31,7 @@ enum Takes {
 /// An option of the program.
 #[derive(Clone, Copy)]
 struct Known {
-    /// The name, which stands behind `--`.
+    /// The name, which follows `--`.
     name: &'static str,
     takes: Takes,
     help: &'static str,
@@ -146,10 +146,8 @@ static OPTIONS: [Known; 30] = [
     },
     Known {
         name: "jobs",
-        help: "share the check out among this many workers, or as many as there are processors, where it is 0",
-        conflicts: &[
-            "replay", "rising", "walk", "shorten", "json", "svg", "mermaid",
-        ],
+        help: "share the check or the walk out among this many workers, or as many as there are processors, where it is 0",
+        conflicts: &["replay", "rising", "shorten", "json", "svg", "mermaid"],
         ..NUMBER
     },
     Known {

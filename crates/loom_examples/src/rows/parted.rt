@@ -57,7 +57,7 @@ impl Parted {
         }
     }
 
-    /// Makes runs of a part of the search, by this builder, and says what that came to.
+    /// Makes runs of a part of the search, by this builder, and gives the outcome.
     pub(crate) fn work_on<R: Host, C: Clock>(
         &self,
         rt: &R,

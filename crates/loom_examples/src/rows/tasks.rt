@@ -70,7 +70,7 @@ impl fmt::Display for ShownReplay<'_> {
 }
 
 /// Does this with the row and this checkpoint file, if there is one, prints what comes of it, and answers the exit status. Where
-/// a run failed and that is asked for, its explanation stands behind the line.
+/// a run failed and that is asked for, its explanation follows the line.
 pub fn do_task<R: AllocGlobal + Files, O: Write, E: Write>(
     rt: &R,
     row: &Row,

@@ -21,6 +21,9 @@ use std::rt::{Clock, Files};
 /// So many runs are made at most to shorten a failure.
 pub const SHORTENING_RUNS: u64 = 10_000;
 
+/// Why several workers don't walk through a row of closures.
+pub(crate) const ONE_WALKS: &str = "error: one worker walks through a row of closures";
+
 /// What came of a row.
 #[derive(Drop)]
 enum Looked {

@@ -154,7 +154,7 @@ pub fn run_asked<R: AllocGlobal + Clock + Files, L: Log, O: Write, E: Write>(
     }
 }
 
-/// What stands behind `--replay` is no list of choices: the usage, and which word is none.
+/// What follows `--replay` is no list of choices: the usage, and which word is none.
 pub(crate) fn refuse_choices<E: Write>(
     alloc: Global,
     text: &str,
@@ -286,7 +286,7 @@ fn nearest<'a>(alloc: Global, rows: &'a [Row], word: &str) -> Result<&'a str, Al
     Ok(nearest)
 }
 
-// The words are wrong, as clap says. Its text ends with the usage or with a hint, which both stand here already. Where it is the
+// The words are wrong, as clap says. Its text ends with the usage or with a hint, which both are here already. Where it is the
 // help, other words stand beside `--help`.
 fn refuse_by<E: Write>(alloc: Global, err: &mut E, error: &Error) -> io::Result<u8>
     ensures { IfOk result (λ status. status ≡ 2) }
@@ -301,7 +301,7 @@ fn refuse_by<E: Write>(alloc: Global, err: &mut E, error: &Error) -> io::Result<
     )
 }
 
-// What stands before this in the text, or all of it.
+// What is before this in the text, or all of it.
 fn before<'a>(text: &'a str, other: &str) -> &'a str {
     match text.split_once(other) {
         Some((before, _)) => before,

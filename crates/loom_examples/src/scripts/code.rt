@@ -35,7 +35,7 @@ const UNLESS_TO: u8 = 11;
 
 const SPAWN_AT: u8 = 12;
 
-/// The bytes of a step: its kind, where it keeps what it is told, three numbers and how long its text is, and then its text.
+/// The bytes of a step: its kind, where it keeps its reply, three numbers and how long its text is, and then its text.
 #[derive(Clone, Copy)]
 struct Code {
     head: [u8; 6],
@@ -76,7 +76,7 @@ fn code_of(step: &Step) -> Option<Code>
     }
 }
 
-/// The code of a step that makes this operation and keeps here what it is told, if it has one.
+/// The code of a step that makes this operation and keeps its reply here, if it has one.
 fn request_code(keep: usize, request: &Request<Value, usize>) -> Option<Code>
     ensures { IfSome result (λ code. Begins code.head code.text.now (Some (Do keep request.now))) }
 {

@@ -84,7 +84,7 @@ fn are_steps_same(one: &[Step], other: &[Step]) -> bool
     left.is_empty()
 }
 
-/// Whether the two steps read the same: a label may stand elsewhere in memory.
+/// Whether the two steps read the same: a label may be elsewhere in memory.
 fn is_step_same(one: &Step, other: &Step) -> bool
     ensures { IsTrue result → written one.now ≡ written other.now }
 {

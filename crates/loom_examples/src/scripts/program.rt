@@ -14,7 +14,7 @@ use loom_objects::operation::Request;
 use std::alloc::{AllocError, Global};
 use std::marker::Model;
 
-/// The steps of a script, and where the labels stand that they name.
+/// The steps of a script, and where the labels are that they name.
 #[derive(Drop)]
 pub(crate) struct Program {
     steps: &'static [Step],
@@ -99,7 +99,7 @@ impl Program {
         never_switch(self.steps)
     }
 
-    /// Where the label stands that the step at this place names. Where it names none, the steps' end.
+    /// Where the label is that the step at this place names. Where it names none, the steps' end.
     pub(crate) fn named_at(&self, place: usize) -> usize
         ensures { result ≡ named_place self.now (slice_get self.now place) }
     {
@@ -139,7 +139,7 @@ fn never_switch(steps: &[Step]) -> bool
     steps.iter().all(|step| !switches(step))
 }
 
-// Where the label stands that the step names. Where it names none, the steps' end.
+// Where the label is that the step names. Where it names none, the steps' end.
 fn named_place(steps: &[Step], step: &Step) -> usize
     ensures { result ≡ named_place (map written steps.now) (Some (written step.now)) }
 {
@@ -162,14 +162,14 @@ fn is_label(step: &Step, name: &str) -> bool
     }
 }
 
-// Where the first label of this name stands.
+// Where the first label of this name is.
 fn label_at(steps: &[Step], name: &str) -> Option<usize>
     ensures { result ≡ position (λ step. is_label name.now (written step)) steps.now }
 {
     steps.iter().position(|step| is_label(step, name))
 }
 
-// Where the first label of this name stands; without one, the steps' end.
+// Where the first label of this name is; without one, the steps' end.
 fn place_of(steps: &[Step], name: &str) -> usize
     ensures { result ≡ place_of (map written steps.now) name.now }
 {

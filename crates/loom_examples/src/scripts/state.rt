@@ -48,9 +48,9 @@ pub enum Told {
 pub struct State {
     /// The next step's place.
     pub at: usize,
-    /// The slot, or the register, in which the last step keeps what it is told.
+    /// The slot, or the register, in which the last step keeps its reply.
     pub keep: usize,
-    /// The numbers that it was told.
+    /// The numbers that it got.
     pub registers: [u64; 4],
     /// The handles that it was given.
     pub slots: [Handle; 8],
@@ -182,7 +182,7 @@ impl State {
         }
     }
 
-    /// Where the next step stands, behind a jump and a label: a jump makes no operation.
+    /// Where the next step is, behind a jump and a label: a jump makes no operation.
     fn landing(&self, program: &Program) -> usize
         ensures { result ≡ landing program.now self.now }
     {
@@ -371,7 +371,7 @@ fn told_by(reply: &Reply<u64>) -> Told
     }
 }
 
-/// The slot, or the register, in which the step keeps what it is told.
+/// The slot, or the register, in which the step keeps its reply.
 fn keep_of(step: &Step) -> usize
     ensures { result ≡ keep_of (written step.now) }
 {

@@ -75,7 +75,7 @@ static ESCAPES: Row = Row {
     limits: None,
 };
 
-// What is told of the row's run.
+// The explanation of the row's run.
 fn explained(rt: &(impl Abort + AllocGlobal), row: &'static Row) -> Result<Explanation, Fail> {
     let body = script(rt, row.steps);
     let choices = Choices::parse(rt.alloc(), row.choices)?;

@@ -1,4 +1,4 @@
-//! The text that is told of each body, in a file of its own.
+//! The explanation of each body, in a file of its own.
 pub mod assertion;
 pub mod deadlock;
 pub mod deadlock_all;

@@ -1,4 +1,4 @@
-//! Where the parts of a picture stand, in pixels.
+//! Where the parts of a picture are, in pixels.
 use crate::picture::{Picture, Row, Shown, Spot};
 
 /// How wide ten characters of a text are.
@@ -22,7 +22,7 @@ pub(crate) const ROW: usize = 34;
 /// How high a line below the rows is, which says where a thread was left.
 const LEFT: usize = 24;
 
-/// Where the first lane is; the events' numbers stand before it.
+/// Where the first lane is; the events' numbers are before it.
 const FIRST_LANE: usize = 76;
 
 /// Where a row's text begins, behind its lane.
@@ -31,7 +31,7 @@ pub(crate) const BEHIND: usize = 16;
 /// The space at the borders.
 pub(crate) const BORDER: usize = 20;
 
-/// Where the parts of a picture stand.
+/// Where the parts of a picture are.
 #[derive(Clone, Copy)]
 pub(crate) struct Frame {
     pub(crate) width: usize,

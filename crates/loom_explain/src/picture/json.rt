@@ -91,7 +91,7 @@ fn spot_of(alloc: Global, spot: Spot) -> Result<Value, AllocError> {
     json!(in alloc; { "row": spot.row, "thread": spot.thread })
 }
 
-/// What stands around the mark of each row.
+/// What is around the mark of each row.
 fn pieces_of(alloc: Global, picture: &Picture) -> Result<Vec<Piece>, AllocError> {
     let mut pieces = Vec::new(alloc);
     for (place, row) in picture.rows.iter().enumerate() {

@@ -24,7 +24,7 @@ const LAST_HOLDS: usize = 20;
 struct Source<'a> {
     scene: Scene<'a>,
     lines: &'a [Line],
-    /// Which events are told.
+    /// Which events are shown.
     told: &'a [bool],
 }
 
@@ -79,7 +79,7 @@ pub(crate) fn picture_of(
     })
 }
 
-/// Which events are told: all, or where there are more than so many the first third of that and the last two, and besides those
+/// Which events are shown: all, or where there are more than so many the first third of that and the last two, and besides those
 /// that are marked, and since when a thread has something at the end.
 fn told_events(alloc: Global, scene: &Scene<'_>, most: usize) -> Result<Vec<bool>, AllocError> {
     let count = scene.explanation.events.len();
@@ -124,7 +124,7 @@ fn put_rows(
 }
 
 impl Source<'_> {
-    /// How many of so many events aren't told from this place on; none where there are at most this many.
+    /// How many of so many events aren't shown from this place on; none where there are at most this many.
     fn folded_from(&self, events: usize, most: usize, place: usize) -> usize
         ensures within { result ≤ events - place }
         ensures whole { events ≤ most → result ≡ 0 }
@@ -191,7 +191,7 @@ impl Source<'_> {
         })
     }
 
-    /// What stands in a line, and what stands below that: an answer stands in it, and a place and what comes after it below.
+    /// What is in a line, and what is below that: an answer is in it, and a place and what comes after it below.
     fn put_line(&self, line: &Line, words: &mut Page, note: &mut Page) {
         words.words(line.text.as_str().trim_start());
         if line.tail.as_str().starts_with(": ") {
@@ -287,7 +287,7 @@ impl Rows {
         Ok(())
     }
 
-    /// One row for so many events that aren't told, of which the last one has this number.
+    /// One row for so many events that aren't shown, of which the last one has this number.
     fn fold(&mut self, source: &Source<'_>, number: usize, count: usize) -> Result<(), AllocError>
         ensures { OnOk result (FoldsOn count self.old.list.items self.new.list.items) }
     {

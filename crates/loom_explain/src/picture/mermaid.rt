@@ -39,7 +39,7 @@ fn end_of(alloc: Global, picture: &Picture) -> Result<String, AllocError> {
     out.finish()
 }
 
-/// What stands around the mark of each row.
+/// What is around the mark of each row.
 fn pieces_of(alloc: Global, picture: &Picture) -> Result<Vec<Piece>, AllocError> {
     let mut pieces = Vec::new(alloc);
     for (place, row) in picture.rows.iter().enumerate() {

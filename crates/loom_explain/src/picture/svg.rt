@@ -41,7 +41,7 @@ pub(crate) fn svg_of(alloc: Global, picture: &Picture) -> Result<String, AllocEr
     )
 }
 
-/// What stands before the rows: they lie over it.
+/// What is before the rows: they lie over it.
 fn start_of(
     alloc: Global,
     picture: &Picture,
@@ -57,7 +57,7 @@ fn start_of(
     out.finish()
 }
 
-/// What stands behind the rows.
+/// What is behind the rows.
 fn end_of(alloc: Global, picture: &Picture, frame: Frame) -> Result<String, AllocError> {
     let mut out = Page::new(alloc);
     put_lefts(&mut out, picture, frame);
@@ -204,7 +204,7 @@ fn put_arrow(out: &mut Page, arrow: &Arrow, frame: Frame) {
     out.words("\"/>\n");
 }
 
-/// What stands around the mark of each row.
+/// What is around the mark of each row.
 fn pieces_of(alloc: Global, picture: &Picture, frame: Frame) -> Result<Vec<Piece>, AllocError> {
     let mut pieces = Vec::new(alloc);
     for (place, row) in picture.rows.iter().enumerate() {

@@ -1,4 +1,4 @@
-//! Writes the rows of a picture: each with its mark, and with the pieces of text that stand around that.
+//! Writes the rows of a picture: each with its mark, and with the pieces of text around that.
 ghost use Rattle.std.specs.Prelude.{◌≡◌, ◌++◌, map, string_bytes, IfOk, OnOk};
 ghost use Rattle.loom_explain.specs.Marks.{StandIn, folded_mark, mark_of, told_mark};
 ghost use Rattle.loom_explain.specs.Rows.{GoesOnWith};
@@ -7,7 +7,7 @@ use crate::picture::{Form, Row};
 use crate::text::page::Page;
 use std::alloc::{AllocError, Global};
 
-/// What stands before the mark of a row, and behind it.
+/// What is before the mark of a row, and behind it.
 #[derive(Drop)]
 pub(crate) struct Piece {
     pub(crate) before: Page,

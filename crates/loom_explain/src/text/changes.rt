@@ -16,7 +16,7 @@ const ADVICE: &str =
 enum Earlier {
     /// In the run before, under the same choices.
     InTheRunBefore,
-    /// In a run before, when it was told the same.
+    /// In a run before, after the same replies.
     ToldTheSame,
 }
 
@@ -34,7 +34,7 @@ pub fn change_text(
     text_of(alloc, run, events, thread, before, now, earlier)
 }
 
-/// `change_text` of a thread that has handed over the first operation in a run before, when it was told the same.
+/// `change_text` of a thread that has handed over the first operation in a run before, after the same replies.
 pub fn recorded_change_text(
     alloc: Global,
     run: u64,

@@ -33,7 +33,7 @@ impl Frame {
         }
     }
 
-    /// Where the marks of the thread's lines stand.
+    /// Where the marks of the thread's lines are.
     fn mark(&self, thread: usize) -> usize {
         if self.has_columns && thread > 0 {
             self.margin.saturating_add(42)

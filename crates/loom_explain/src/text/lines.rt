@@ -101,7 +101,7 @@ impl Lines {
         }
     }
 
-    /// The number to stand in front of what comes of an operation: none where it comes next to its line.
+    /// The number in front of what comes of an operation: none where it comes next to its line.
     fn number_before(&self, line: usize, event: usize) -> Option<usize> {
         if self.list.len() == line.saturating_add(1) {
             None

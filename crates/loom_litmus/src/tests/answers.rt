@@ -52,7 +52,7 @@ exists (1:r0=0)
 "#,
         "Flag deadlock",
     ),
-    // A lock that is held isn't waited for. Others see that it is held where the thread that holds it comes to a branch point.
+    // A lock that is held isn't waited for. Others see that it is held where the thread that holds it reaches a branch point.
     (
         r#"C trylock
 { int d; mtx_t m; }
@@ -165,7 +165,7 @@ forall (0:r0=-3 /\ 0:r1=-1 /\ 0:r2=-4 /\ 0:r3=1 /\ 0:r4=-6 /\ 0:r5=1 /\ 0:r6=1 /
 "#,
         "States 1\n0:r0=-3; 0:r1=-1; 0:r2=-4; 0:r3=1; 0:r4=-6; 0:r5=1; 0:r6=1; 0:r7=0;\nOk",
     ),
-    // What stands behind `&&` and `||` is evaluated only where it is needed, and a division by 0 fails.
+    // What follows `&&` and `||` is evaluated only where it is needed, and a division by 0 fails.
     (
         r#"C short
 { }

@@ -1,13 +1,13 @@
 //! What a check finds of a litmus test, as a text.
 use loom::model::builder::Builder;
 use loom::model::clock::NoClock;
-use loom::model::cover::MOST_STATES;
+use loom::model::cover::{Covered, MOST_STATES};
 use loom::model::error::CheckError;
 use loom_text::read::read;
 use loom_text::run::answer::{Answer, Found};
 use loom_text::run::check::{Outcome, check};
 use loom_text::run::counting::Unheard;
-use loom_text::run::cover::cover;
+use loom_text::run::cover::{Covering, cover};
 use loom_text::run::layout::Layout;
 use loom_text::run::program::assemble;
 use loom_text::run::thread::TestThread;
@@ -74,18 +74,7 @@ pub fn covered(alloc: Global, text: &str) -> String {
 
 fn put_covered(alloc: Global, test: &Test, lines: &mut String) {
     if let Ok(layout) = Layout::of(alloc, test)
-        && let Ok(program) = assemble(alloc, test, &layout, "test.litmus")
-        && let Ok(main) = TestThread::main(alloc, program)
-        && let Ok(covering) = cover(
-            alloc,
-            &Builder::new(),
-            test,
-            &layout,
-            &main,
-            &mut NoClock,
-            &mut Unheard,
-            MOST_STATES,
-        )
+        && let Some(covering) = covering_of(alloc, test, &layout)
     {
         let found = Found::Covering(covering);
         let answer = Answer {
@@ -94,6 +83,32 @@ fn put_covered(alloc: Global, test: &Test, lines: &mut String) {
             found: &found,
         };
         put_answer(alloc, answer, lines);
+    }
+}
+
+fn covering_of(alloc: Global, test: &Test, layout: &Layout) -> Option<Covering> {
+    let program = assemble(alloc, test, layout, "test.litmus").ok()?;
+    let main = TestThread::main(alloc, program).ok()?;
+    cover(
+        alloc,
+        &Builder::new(),
+        test,
+        layout,
+        &main,
+        &mut NoClock,
+        &mut Unheard,
+        MOST_STATES,
+    )
+    .ok()
+}
+
+/// How many runs such a check makes of the text: those that end, and those that are given up. Where it isn't complete it is nothing.
+pub fn covered_runs(alloc: Global, text: &str) -> Option<(u64, u64)> {
+    let test = read(alloc, text.as_bytes()).ok()?;
+    let layout = Layout::of(alloc, &test).ok()?;
+    match covering_of(alloc, &test, &layout)?.covered {
+        Covered::Complete { runs, met, .. } => Some((runs, met)),
+        Covered::Livelock { .. } | Covered::Stopped { .. } | Covered::Failed { .. } => None,
     }
 }
 

@@ -1,5 +1,5 @@
 //! The results of the tests. They were found by another program, which no part of this one was written from.
-use crate::tests::finding::{covered, found};
+use crate::tests::finding::{covered, covered_runs, found};
 use crate::tests::reading::texts::TEXTS;
 use std::process::Abort;
 
@@ -387,4 +387,24 @@ fn covered_tests_have_their_results(rt: HostRuntime) {
     for (name, text) in &TEXTS {
         is_covered(&rt, name, text);
     }
+}
+
+// The text of this name.
+fn text_of(name: &str) -> &'static str {
+    match TEXTS.iter().find(|test| test.0 == name) {
+        Some(test) => test.1,
+        None => "",
+    }
+}
+
+// Of the test of this name so many runs end, and so many are given up.
+fn makes_runs(rt: &(impl Abort + AllocGlobal), name: &str, runs: (u64, u64)) {
+    let found = covered_runs(rt.alloc(), text_of(name));
+    assert!(rt; found == Some(runs), "{name}: {found:?}");
+}
+
+#[test]
+fn covered_tests_of_four_threads_make_few_runs(rt: HostRuntime) {
+    makes_runs(&rt, "IRIW", (16, 3_911));
+    makes_runs(&rt, "CoRR2", (94, 14_543));
 }

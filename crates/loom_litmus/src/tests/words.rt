@@ -10,7 +10,7 @@ use std::{fs, io};
 // Words, what they print on standard output and on standard error, and the status.
 type Call = (&'static [&'static str], &'static str, &'static str, u8);
 
-static CALLS: [Call; 28] = [
+static CALLS: [Call; 30] = [
     // One file has its whole answer.
     (
         &["SB.litmus"],
@@ -62,6 +62,12 @@ static CALLS: [Call; 28] = [
         "error: the argument '--states <N>' cannot be used with '--whole'\n\nUsage: loom_litmus [OPTIONS] FILE..\n\nFor more information, try '--help'.\n",
         2,
     ),
+    (
+        &["--snapshots", "--reduce", "SB.litmus"],
+        "",
+        "error: the argument '--snapshots' cannot be used with '--reduce'\n\nUsage: loom_litmus [OPTIONS] FILE..\n\nFor more information, try '--help'.\n",
+        2,
+    ),
     // A limit that was reached is named.
     (
         &["--max-permutations", "5", "SB.litmus"],
@@ -84,6 +90,13 @@ static CALLS: [Call; 28] = [
     (
         &["--states", "3", "SB.litmus"],
         "Test SB Allowed\nStates 4\n0:r0=0; 1:r0=0;\n0:r0=0; 1:r0=1;\n0:r0=1; 1:r0=0;\n0:r0=1; 1:r0=1;\nOk\nWitnesses\nPositive: 126 Negative: 246\nThe counts are of the runs that this search made.\nCondition exists (0:r0=0 /\\ 1:r0=0)\nObservation SB Sometimes 126 246\n",
+        "",
+        0,
+    ),
+    // From copies of earlier runs the search finds the same.
+    (
+        &["--snapshots", "SB.litmus"],
+        "Test SB Allowed\nStates 4\n0:r0=0; 1:r0=0;\n0:r0=0; 1:r0=1;\n0:r0=1; 1:r0=0;\n0:r0=1; 1:r0=1;\nOk\nWitnesses\nPositive: 1 Negative: 3\nThe counts are of the runs that this search made.\nCondition exists (0:r0=0 /\\ 1:r0=0)\nObservation SB Sometimes 1 3\n",
         "",
         0,
     ),

@@ -19,7 +19,7 @@ pub fails_outside : {A E D : Type 0} (rule : World D → Result (A × World D) F
 fails_outside {A} {E} rule old new kind result e does =
     subst (λ (r : Result (Result A E) FailureKind). IfOk (memory_outside r) (λ answer. Does rule old answer new)) (sym e) does
 
--- points that a rule came to
+-- points that a rule led to
 pub comes_so : {A D : Type 0} (first : World D → Result (A × World D) FailureKind) (old mid : Stage D) (a : A) → Does first old (Ok a) mid → (p : Points) (left : ℕ) → ShowsViews p old.views
     → (q : Points) × (first (world_of p left old) ≡ Ok (a, world_of q left mid)) × ShowsViews q mid.views
 comes_so first old mid a does p left shown = let o = does p left shown in (points_of p (first (world_of p left old)), o.0, o.1)

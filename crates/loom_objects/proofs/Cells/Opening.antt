@@ -67,7 +67,7 @@ module _ {B D : Type 0} (n : ℕ) (next : Cell D → World D → Result (B × Wo
 
     module _ (rule : World D → Result (B × World D) FailureKind) (first : World D → Result (⊤ × World D) FailureKind)
         (opening : (p : Points) (left : ℕ) → rule (world_of p left old) ≡ (first (world_of p left old) >>= then_on)) where
-      -- the rule goes on from points that the first one came to
+      -- the rule goes on from points that the first one led to
       goes : Does first old (Ok tt) mid → mid ≡ record old { views = mid.views } → (p : Points) (left : ℕ) → ShowsViews p old.views
           → (q : Points) × (rule (world_of p left old) ≡ goes_on (world_of q left mid)) × ShowsViews q mid.views
       goes does rest p left shown =

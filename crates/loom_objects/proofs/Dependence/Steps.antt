@@ -40,7 +40,7 @@ found_thread o d t view e z = let h = z.threads t in go (slice_get o.threads t) 
 pub no_thread : (o : Order) (d : Dependence) (t : ℕ) → length d.threads ≤ t → ShowsOrder o d → slice_get o.threads t ≡ None
 no_thread o d t l z = let count = z.count in slice_get_past o.threads t (omega arith)
 
--- where a thread's point has come to, in a graph that the thread has grown
+-- where a thread's point has moved to, in a graph that the thread has grown
 pub record Moved (t : ℕ) (g to : Graph) (own : ℕ) (view : List ℕ) : Type 0 where
   pub grown : GrownBy t g to
   pub chained : IsChained to

@@ -31,7 +31,7 @@ module _ {D : Type 0} where
   comes_told p left (Err kind) (Ok reply) new h = let e = h.0 in absurd (cc)
   comes_told p left (Err kind) (Err other) new h = let is : kind ≡ other = cc in ap Err is
 
-  -- it is told the reply
+  -- it gets the reply
   pub tells : (effect : World D → Result (Reply D × World D) FailureKind) (old new : Stage D) (r : Result (Reply D) FailureKind)
       → Does effect old r new → Does (λ w. effect w >>= replied) old (replied_by new.active r) new
   tells effect old new r does = λ p left shown. comes_told p left (effect (world_of p left old)) r new (does p left shown)
@@ -74,7 +74,7 @@ on_err (Ok value) p = tt
 on_err (Err refused) p = p
 
 module _ {D : Type 0} where
-  -- the reader is told of the copy
+  -- the reader gets the copy
   told_copy : (n : ℕ) (copy : D) (answer : Result (Reply D × World D) FailureKind) → answer_of answer ≡ Ok (reply.ReadLocked n copy)
       → (reader m : ℕ) × (value : D) × (answer_of (answer >>= replied) ≡ Ok (resumed.Passed (passed.Turn (turn.Reply reader (reply.ReadLocked m value)))))
   told_copy n copy (Ok x) e =

@@ -175,7 +175,7 @@ module _ {D : Type 0} where
       (reader, n, copy, x.1, ap (λ (r : Resumed D). asked exploring (r, x.1)) is)
   copy_at exploring (Err kind) reader n copy e = absurd (cc)
 
-  -- the chosen thread is a reader who is told of a copy
+  -- the chosen thread is a reader who gets a copy
   pub gives_copy : (t : ℕ) (old : RunState D) → TellsCopy (chosen t) old.scene → (exploring : Bool) → (w : World D) → Shows w old → GivesCopy (resumes exploring t w)
   gives_copy t old tells = λ exploring w shown.
       let said = tells w.points old.steps_left shown.views in

@@ -23,26 +23,26 @@ module _ {A D : Type 0} (rule : World D → Result (A × World D) FailureKind) (
   pub refuses : (kind : FailureKind) → ((p : Points) (left : ℕ) → rule (world_of p left old) ≡ Err kind) → Does rule old (Err kind) new
   refuses kind e = λ p left shown. e p left
 
--- a rule does what another one does that comes to the same
+-- a rule does what another one does that answers the same
 pub does_as : {A D : Type 0} (rule other : World D → Result (A × World D) FailureKind) (old new : Stage D) (result : Result A FailureKind)
     → ((p : Points) (left : ℕ) → rule (world_of p left old) ≡ other (world_of p left old)) → Does other old result new → Does rule old result new
 does_as {A} {D} rule other old new result same does = λ p left shown.
     subst (λ (answer : Result (A × World D) FailureKind). Comes p left answer result new) (sym (same p left)) (does p left shown)
 
--- a rule goes on as another one from the scene that the code has come to
+-- a rule goes on as another one from the scene that the code has reached
 pub does_from : {A D : Type 0} (rule other : World D → Result (A × World D) FailureKind) (old mid new : Stage D) (result : Result A FailureKind) → mid.views ≡ old.views
     → ((p : Points) (left : ℕ) → rule (world_of p left old) ≡ other (world_of p left mid)) → Does other mid result new → Does rule old result new
 does_from {A} {D} rule other old mid new result views same does = λ p left shown.
     subst (λ (answer : Result (A × World D) FailureKind). Comes p left answer result new) (sym (same p left)) (does p left (subst (ShowsViews p) (sym views) shown))
 
--- what is said of the points that a rule comes to doesn't depend on those before it
+-- what is said of the points that a rule leads to doesn't depend on those before it
 comes_at : {A D : Type 0} (p q : Points) (left : ℕ) (answer : Result (A × World D) FailureKind) (result : Result A FailureKind) (new : Stage D) → Comes q left answer result new → Comes p left answer result new
 comes_at p q left (Ok x) (Ok a) new comes = comes
 comes_at p q left (Ok x) (Err kind) new comes = comes
 comes_at p q left (Err kind) (Ok a) new comes = let e = comes.0 in absurd (cc)
 comes_at p q left (Err kind) (Err other) new comes = comes
 
--- a rule goes on from what another one came to
+-- a rule goes on from another one's result
 pub follows : {A B D : Type 0} (first : World D → Result (A × World D) FailureKind) (next : A × World D → Result (B × World D) FailureKind) (old mid new : Stage D) (a : A) (result : Result B FailureKind)
     → Does first old (Ok a) mid → Does (λ w. next (a, w)) mid result new → Does (λ w. first w >>= next) old result new
 follows {A} {B} {D} first next old mid new a result does then p left shown =

@@ -25,7 +25,7 @@ use Rattle.loom_objects.proofs.Scene.Showing.{Leads}
 
 -- ---- an access that waits for its turn
 
--- at each of these the thread comes to a branch point
+-- at each of these the thread reaches a branch point
 pub comes_to_branch : {D : Type 0} (access : AtomicOp) (w : World D)
     → ((n : ℕ) × (order : Ordering) × (access ≡ Load n order)) ⊎ (((n : ℕ) × (value : ℕ) × (order : Ordering) × (access ≡ Store n value order))
     ⊎ (((n : ℕ) × (change : Change) × (order : Ordering) × (access ≡ Update n change order)) ⊎ (((n : ℕ) × (exchange : Exchange) × (access ≡ CompareExchange n exchange))

@@ -27,7 +27,7 @@ slot_of Send kept = kept.send
 slot_of Receive kept = kept.receipt
 slot_of Other kept = kept.latest
 
--- a vector once what is kept of an access has come to it
+-- a vector, joined with what is kept of an access
 abbrev pub joined_last : List ℕ → Option LastAccess → List ℕ
 joined_last view None = view
 joined_last view (Some kept) = join view kept.view

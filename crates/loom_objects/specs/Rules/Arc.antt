@@ -65,7 +65,7 @@ module _ {D : Type 0} where
     _ ← check (is_number arc.content.lent w.active) Misuse
     Ok (Answered reply.Done, with_arc n (record arc { content = put_back value arc.content }) w)
 
-  -- at any other operation the thread comes to a branch point, where it is to do this
+  -- at any other operation the thread reaches a branch point, where it is to do this
   abbrev pub comes_to : Task D → ℕ → World D → Result (Entry D × World D) FailureKind
   comes_to todo n w = do
     arc ← an_arc n w
@@ -127,7 +127,7 @@ module _ {D : Type 0} where
     _ ← check (is_free arc) Misuse
     Ok (reply.Value arc.count, acquires n w)
 
-  -- the first stage: the thread acquires, and comes to a second branch point, if it has the one reference alone
+  -- the first stage: the thread acquires, and reaches a second branch point, if it has the one reference alone
   abbrev pub unwraps_if : Bool → ℕ → World D → Result (Passed D × World D) FailureKind
   unwraps_if false n w = Ok (passed.Turn (turn.Reply w.active reply.Shared), w)
   unwraps_if true n w = do

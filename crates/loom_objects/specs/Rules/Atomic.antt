@@ -104,7 +104,7 @@ module _ {D : Type 0} where
     _ ← check (not (is_relaxed order)) RelaxedFence
     Ok (Answered reply.Done, with_points (points_after_fence raised.points raised.active order) raised)
 
-  -- at any other access the thread comes to a branch point
+  -- at any other access the thread reaches a branch point
   abbrev pub access_begins : AtomicOp → World D → Result (Entry D × World D) FailureKind
   access_begins access w = do
     n ← found (accessed access) Misuse

@@ -46,7 +46,7 @@ module _ {D : Type 0} where
   abbrev pub condvar_new : World D → Result (Entry D × World D) FailureKind
   condvar_new w = Ok (Answered (reply.Condvar (length w.objects)), with_new (object.Condvar (waited_on_by [])) w)
 
-  -- a thread that holds the mutex comes to a branch point
+  -- a thread that holds the mutex reaches a branch point
   abbrev pub wait_begins : Locking → ℕ → ℕ → D → World D → Result (Entry D × World D) FailureKind
   wait_begins locking n m value w = do
     _ ← a_condvar n w

@@ -31,7 +31,7 @@ use Rattle.loom_objects.specs.Rules.Rule.{◌>>=◌, check, found}
 use Rattle.loom_objects.specs.World.{World}
 pub use Rattle.loom_objects.specs.Lent.{is_number}
 
--- the state of a thread that comes to a branch point: one that isn't blocked there stays as it is
+-- the state of a thread at a branch point: one that isn't blocked there stays as it is
 abbrev pub blocked_if : Bool → State → State
 blocked_if true state = Blocked
 blocked_if false state = state

@@ -30,7 +30,7 @@ module _ {D : Type 0} where
   abbrev pub mutex_new : D → World D → Result (Entry D × World D) FailureKind
   mutex_new value w = Ok (Answered (reply.Mutex (length w.objects)), with_new (object.Mutex (record { holder = None; content = kept value })) w)
 
-  -- the thread comes to a branch point, and is blocked there while the mutex is held
+  -- the thread reaches a branch point, and is blocked there while the mutex is held
   abbrev pub lock_begins : ℕ → World D → Result (Entry D × World D) FailureKind
   lock_begins n w = do
     mutex ← a_mutex n w

@@ -11,7 +11,7 @@ use Rattle.loom_objects.specs.declared.rt.run.Resumed.TheVariants as resumed
 use Rattle.loom_objects.specs.World.{World}
 
 module _ {D : Type 0} where
-  -- the active thread is told the reply
+  -- the active thread gets the reply
   abbrev pub replied : Reply D × World D → Result (Resumed D × World D) FailureKind
   replied (reply, w) = Ok (resumed.Passed (passed.Turn (turn.Reply w.active reply)), w)
 
@@ -20,7 +20,7 @@ module _ {D : Type 0} where
   gone (passed, w) = Ok (resumed.Passed passed, w)
 
 module _ {D : Type 0} where
-  -- thread t is told the reply
+  -- thread t gets the reply
   abbrev pub replied_by : ℕ → Result (Reply D) FailureKind → Result (Resumed D) FailureKind
   replied_by t (Ok reply) = Ok (resumed.Passed (passed.Turn (turn.Reply t reply)))
   replied_by t (Err kind) = Err kind

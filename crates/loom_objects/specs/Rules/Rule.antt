@@ -1,8 +1,8 @@
--- Rules without a choice: each comes to something, or fails by name.
+-- Rules without a choice: each has a result, or fails by name.
 use Rattle.std.specs.Prelude.{Bool, true, false, Option, Some, None, Result, Ok, Err, ⊤}
 use Rattle.loom_views.specs.declared.rt.failure.FailureKind.{FailureKind}
 
--- the one rule, and from what it comes to the other
+-- the one rule, and from its result the other
 infixr 5 ◌>>=◌
 abbrev pub ◌>>=◌ : {A B : Type 0} → Result A FailureKind → (A → Result B FailureKind) → Result B FailureKind
 ◌>>=◌ (Ok a) next = next a

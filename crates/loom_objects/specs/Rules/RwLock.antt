@@ -77,7 +77,7 @@ module _ {D : Type 0} where
   abbrev pub rwlock_new : D → World D → Result (Entry D × World D) FailureKind
   rwlock_new value w = Ok (Answered (reply.RwLock (length w.objects)), with_new (object.RwLock (new_lock value)) w)
 
-  -- the thread comes to a branch point, and is blocked there while it waits for the lock
+  -- the thread reaches a branch point, and is blocked there while it waits for the lock
   abbrev pub claim_begins : Claim → ℕ → World D → Result (Entry D × World D) FailureKind
   claim_begins claim n w = do
     lock ← a_rwlock n w

@@ -45,7 +45,7 @@ module _ {D : Type 0} where
   abbrev pub enters_wait : Bool → ℕ → World D → Tree (⊤ × World D)
   enters_wait is_spurious n w = came (entered is_spurious n w)
 
-  -- the active thread is told the reply
+  -- the active thread gets the reply
   abbrev pub told : Reply D × World D → Tree (Turn D × World D)
   told (reply, w) = Gives (turn.Reply w.active reply, w)
 
@@ -69,7 +69,7 @@ module _ {D : Type 0} where
     turn ← read_slot load w slot
     turned turn
 
-  -- thread t is chosen, and what it has pending takes effect: a thread has its turn, or this one comes to another branch point;
+  -- thread t is chosen, and what it has pending takes effect: a thread has its turn, or this one reaches another branch point;
   -- where a store is to be chosen the search explores or doesn't
   abbrev pub resumes : Bool → ℕ → World D → Tree (Passed D × World D)
   resumes exploring t w = came (chosen t w) >>= asked exploring

@@ -79,7 +79,7 @@ module _ {D : Type 0} where
     _ ← check (nat_lt 0 w.steps_left) TooManySteps
     op_begins todo (record w { steps_left = w.steps_left - 1 })
 
-  -- what the active thread had pending takes effect: a thread has its turn, or it comes to another branch point, or which store
+  -- what the active thread had pending takes effect: a thread has its turn, or it reaches another branch point, or which store
   -- it reads is to be chosen
   abbrev pub takes_effect : Task D → World D → Result (Resumed D × World D) FailureKind
   takes_effect Start w = Ok (resumed.Passed (passed.Turn (turn.Start w.active)), w)

@@ -54,7 +54,7 @@ module _ {D : Type 0} where
   has_own None n = false
   has_own (Some thread) n = is_number thread.notifier n
 
-  -- A thread is joined once, by the notifier that is its own. The active thread comes to a branch point, and is blocked there
+  -- A thread is joined once, by the notifier that is its own. The active thread reaches a branch point, and is blocked there
   -- until it is notified
   abbrev pub join_begins : ℕ → ℕ → World D → Result (Entry D × World D) FailureKind
   join_begins t n w = do
@@ -71,7 +71,7 @@ module _ {D : Type 0} where
     (value, taken) ← takes_result t w
     Ok (reply.Data value, acquires n (with_notify n (record notifier { notified = false }) taken))
 
-  -- main has its result at once, and gives the values back that were made once; another thread comes to a branch point, at which
+  -- main has its result at once, and gives the values back that were made once; another thread reaches a branch point, at which
   -- it is to notify
   abbrev pub finish_as : Option ℕ → D → World D → Result (Entry D × World D) FailureKind
   finish_as None value w = Ok (Answered (reply.Lazies w.lazies), record (changes_active (having value) w) { lazies = [] })
@@ -99,7 +99,7 @@ module _ {D : Type 0} where
     _ ← check (is_finished thread.phase) Misuse
     Ok (Answered (reply.Locals thread.locals), changes_active without_locals (changes_active (at_phase Exited) w))
 
-  -- the thread has ended before the branch point that it comes to
+  -- the thread has ended before its branch point
   abbrev pub end : World D → Result (Entry D × World D) FailureKind
   end w = do
     thread ← active_thread w
@@ -114,7 +114,7 @@ module _ {D : Type 0} where
     thread ← active_thread w
     Ok (Answered (reply.Thread w.active thread.name), w)
 
-  -- a token is taken; without one the thread is parked before the branch point that it comes to
+  -- a token is taken; without one the thread is parked before its branch point
   abbrev pub parks_unless : Bool → World D → Result (Entry D × World D) FailureKind
   parks_unless true w = Ok (Answered reply.Done, changes_active (with_token false) w)
   parks_unless false w = Ok (AtBranch, rests state.Parked task.Continue w)
@@ -130,7 +130,7 @@ module _ {D : Type 0} where
     given ← unparks t w
     Ok (Answered reply.Done, joins_view (if_other w.active t) given.1)
 
-  -- the thread yields before the branch point that it comes to
+  -- the thread yields before its branch point
   abbrev pub yield_now : World D → Result (Entry D × World D) FailureKind
   yield_now w = do
     yielded ← yields task.Continue w

@@ -43,7 +43,7 @@ module _ {D : Type 0} where
   abbrev pub answered : Reply D → World D → Result (Passed D × World D) FailureKind
   answered reply w = Ok (passed.Turn (turn.Reply w.active reply), w)
 
-  -- the thread comes to another branch point, where this is pending
+  -- the thread reaches another branch point, where this is pending
   abbrev pub pends_next : Task D → Bool → World D → Result (Passed D × World D) FailureKind
   pends_next todo is_blocked w = Ok (passed.AtBranch, pends todo is_blocked w)
 
@@ -61,7 +61,7 @@ module _ {D : Type 0} where
     wakers ← some_wakers c w
     wait_begins wakers.notifier w
 
-  -- at any other operation the thread comes to a branch point, where this is pending
+  -- at any other operation the thread reaches a branch point, where this is pending
   abbrev pub waker_pends : Task D → ℕ → World D → Result (Entry D × World D) FailureKind
   waker_pends todo c w = do
     _ ← some_wakers c w

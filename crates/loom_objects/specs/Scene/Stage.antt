@@ -29,12 +29,12 @@ module _ {D : Type 0} where
   abbrev pub world_of : Points → ℕ → Stage D → World D
   world_of points left s = record { threads = s.threads; objects = s.objects; points = points; lazies = s.lazies; active = s.active; yields = s.yields; steps_left = left; max_threads = s.max_threads }
 
-  -- the points of the state that a rule comes to; where it fails, they don't matter
+  -- the points of the state that a rule leads to; where it fails, they don't matter
   abbrev pub points_of : {A : Type 0} → Points → Result (A × World D) FailureKind → Points
   points_of p (Ok x) = x.1.points
   points_of p (Err kind) = p
 
-  -- the code answers what the rule does, and then shows the state that the rule comes to
+  -- the code answers what the rule does, and then shows the state that the rule leads to
   abbrev pub Comes : {A : Type 0} → Points → ℕ → Result (A × World D) FailureKind → Result A FailureKind → Stage D → Type 0
   Comes p left answer (Ok a) new = (answer ≡ Ok (a, world_of (points_of p answer) left new)) × ShowsViews (points_of p answer) new.views
   Comes p left answer (Err kind) new = answer ≡ Err kind

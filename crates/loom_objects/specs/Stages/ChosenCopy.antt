@@ -18,13 +18,13 @@ use Rattle.loom_objects.specs.World.{World}
 use Rattle.loom_objects.specs.Stages.LockCopy.{answer_of}
 
 module _ {D : Type 0} where
-  -- from each state that the scene shows, the rule answers that a reader is told of a copy of a lock's data
+  -- from each state that the scene shows, the rule answers that a reader gets a copy of a lock's data
   abbrev pub TellsCopy : (World D → Result (Resumed D × World D) FailureKind) → Stage D → Type 0
   TellsCopy rule old =
       (p : Points) → (left : ℕ) → ShowsViews p old.views
       → (reader n : ℕ) × (copy : D) × (answer_of (rule (world_of p left old)) ≡ Ok (resumed.Passed (passed.Turn (turn.Reply reader (ReadLocked n copy)))))
 
-  -- the tree comes to a reader who is told of a copy of a lock's data
+  -- the tree ends with a reader who gets a copy of a lock's data
   abbrev pub GivesCopy : Tree (Passed D × World D) → Type 0
   GivesCopy tree = (reader n : ℕ) × (copy : D) × (after : World D) × (tree ≡ Gives (passed.Turn (turn.Reply reader (ReadLocked n copy)), after))
 

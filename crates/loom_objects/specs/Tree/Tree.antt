@@ -6,7 +6,7 @@ use Rattle.loom_objects.specs.Tree.Question.{Question}
 
 infixr 5 ◌>>=◌
 pub data Tree (A : Type 0) : Type 0 where
-  -- it comes to this
+  -- it gives this
   Gives : A → Tree A
   Fails : FailureKind → Tree A
   -- here the run is over: nothing of a path may be left
@@ -14,7 +14,7 @@ pub data Tree (A : Type 0) : Type 0 where
   -- it goes on by a choice
   Asks : Question → (Choice → Tree A) → Tree A
 
--- the one tree, and from what it comes to the other
+-- the one tree, and from what it gives the other
 abbrev pub ◌>>=◌ : {A B : Type 0} → Tree A → (A → Tree B) → Tree B
 ◌>>=◌ (Gives a) next = next a
 ◌>>=◌ (Fails kind) next = Fails kind

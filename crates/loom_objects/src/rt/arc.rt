@@ -117,7 +117,7 @@ impl<D: Drop> Scene<D> {
     }
 }
 
-/// The active thread comes to a second branch point, at which it takes the value out.
+/// The active thread reaches a second branch point, at which it takes the value out.
 pub fn pend_unwrap<D: Drop>(scene: &mut Scene<D>, number: usize) -> Passed<D>
     ensures pends { scene.new ≡ record scene.old { threads = with_thread (pending (Task.Count Counting.Unwrap number) false) scene.old.active scene.old.threads } }
     ensures branch { result ≡ Passed.AtBranch }
@@ -211,7 +211,7 @@ fn unwrap_begins<D: Drop>(scene: &mut Scene<D>, number: usize) -> Result<Entry<D
     come_to(scene, Task::TryUnwrap(number), number)
 }
 
-/// The thread comes to a branch point, where it is to do this.
+/// The thread reaches a branch point, where it is to do this.
 fn come_to<D: Drop>(
     scene: &mut Scene<D>,
     todo: Task<D>,
@@ -304,7 +304,7 @@ fn tell_count<D: Drop>(scene: &mut Scene<D>, number: usize) -> Result<Reply<D>, 
     Ok(Reply::Value(count))
 }
 
-/// The thread acquires, and comes to a second branch point, if it has the one reference alone.
+/// The thread acquires, and reaches a second branch point, if it has the one reference alone.
 pub fn try_unwrap<D: Drop>(scene: &mut Scene<D>, number: usize) -> Result<Passed<D>, FailureKind>
     ensures { Does (rules.tries_unwrap number) scene.old result scene.new }
 {

@@ -245,7 +245,7 @@ fn with_mut_end<D: Drop>(
     Ok(Entry::Answered(Reply::Done))
 }
 
-/// The thread comes to a branch point.
+/// The thread reaches a branch point.
 fn access_begins<D: Drop>(scene: &mut Scene<D>, access: AtomicOp) -> Result<Entry<D>, FailureKind>
     ensures { Does (rules.access_begins access) scene.old result scene.new }
 {

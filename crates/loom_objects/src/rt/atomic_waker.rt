@@ -91,7 +91,7 @@ fn atomic_waker_new<D: Drop>(scene: &mut Scene<D>) -> Result<Entry<D>, AllocErro
     Ok(Entry::Answered(Reply::AtomicWaker(number)))
 }
 
-/// The thread comes to a branch point, where it is to register the waker.
+/// The thread reaches a branch point, where it is to register the waker.
 fn register_begins<D: Drop>(
     scene: &mut Scene<D>,
     number: usize,
@@ -103,7 +103,7 @@ fn register_begins<D: Drop>(
     waker_pends(scene, Task::Register(number, wakers), wakers)
 }
 
-/// The thread comes to a branch point, where it is to clone the waker first.
+/// The thread reaches a branch point, where it is to clone the waker first.
 fn register_by_ref_begins<D: Drop>(
     scene: &mut Scene<D>,
     number: usize,
@@ -115,7 +115,7 @@ fn register_by_ref_begins<D: Drop>(
     waker_pends(scene, Task::CloneWaker(wakers, Some(number)), wakers)
 }
 
-/// The thread comes to a branch point, blocked while another one holds the lock.
+/// The thread reaches a branch point, blocked while another one holds the lock.
 fn take_begins<D: Drop>(
     scene: &mut Scene<D>,
     taking: Taking,

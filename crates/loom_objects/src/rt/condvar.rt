@@ -128,7 +128,7 @@ fn condvar_new<D: Drop>(scene: &mut Scene<D>) -> Result<Entry<D>, AllocError>
     Ok(Entry::Answered(Reply::Condvar(number)))
 }
 
-/// A thread that holds the mutex comes to a branch point.
+/// A thread that holds the mutex reaches a branch point.
 fn condvar_wait_begins<D: Drop>(
     scene: &mut Scene<D>,
     locking: Locking,

@@ -188,7 +188,7 @@ fn channel_new<D: Drop>(scene: &mut Scene<D>) -> Result<Entry<D>, AllocError>
     Ok(Entry::Answered(Reply::Channel(number)))
 }
 
-/// The message is made, with a stamp of its own, and the thread comes to a branch point.
+/// The message is made, with a stamp of its own, and the thread reaches a branch point.
 fn send_begins<D: Drop>(
     scene: &mut Scene<D>,
     number: usize,
@@ -221,7 +221,7 @@ fn check_sender<D: Drop>(scene: &Scene<D>, number: usize) -> Result<(), FailureK
     Ok(())
 }
 
-/// The thread comes to a branch point, blocked while there is no message and a sender is left.
+/// The thread reaches a branch point, blocked while there is no message and a sender is left.
 fn recv_begins<D: Drop>(scene: &mut Scene<D>, number: usize) -> Result<Entry<D>, FailureKind>
     ensures { Does (rules.recv_begins number) scene.old result scene.new }
 {
@@ -280,7 +280,7 @@ fn sender_drop<D: Drop>(scene: &mut Scene<D>, number: usize) -> Result<Entry<D>,
     Ok(Entry::Answered(Reply::Done))
 }
 
-/// The receiver is gone, or the thread comes to a branch point for the first message that is left.
+/// The receiver is gone, or the thread reaches a branch point for the first message that is left.
 fn receiver_drop<D: Drop>(scene: &mut Scene<D>, number: usize) -> Result<Entry<D>, FailureKind>
     ensures { Does (rules.receiver_drop number) scene.old result scene.new }
 {
@@ -377,7 +377,7 @@ pub fn receive<D: Drop>(
 }
 
 /// The active thread, which drops the receiver, takes one message more out. With the last one the receiver is gone; else the
-/// thread comes to another branch point.
+/// thread reaches another branch point.
 pub fn drain<D: Drop>(
     scene: &mut Scene<D>,
     number: usize,
@@ -390,7 +390,7 @@ pub fn drain<D: Drop>(
     go_on(scene, number, taken)
 }
 
-/// Without another message the receiver is gone; else the thread comes to another branch point.
+/// Without another message the receiver is gone; else the thread reaches another branch point.
 fn go_on<D: Drop>(
     scene: &mut Scene<D>,
     number: usize,

@@ -142,7 +142,7 @@ fn mutex_new<D: Drop>(scene: &mut Scene<D>, value: D) -> Result<Entry<D>, AllocE
     Ok(Entry::Answered(Reply::Mutex(number)))
 }
 
-/// The thread comes to a branch point, and is blocked there while the mutex is held.
+/// The thread reaches a branch point, and is blocked there while the mutex is held.
 fn lock_begins<D: Drop>(scene: &mut Scene<D>, number: usize) -> Result<Entry<D>, FailureKind>
     ensures { Does (rules.lock_begins number) scene.old result scene.new }
 {
@@ -152,7 +152,7 @@ fn lock_begins<D: Drop>(scene: &mut Scene<D>, number: usize) -> Result<Entry<D>,
     Ok(Entry::AtBranch)
 }
 
-/// The thread comes to a branch point, at which it is blocked only where another thread comes first.
+/// The thread reaches a branch point, at which it is blocked only where another thread comes first.
 fn try_lock_begins<D: Drop>(scene: &mut Scene<D>, number: usize) -> Result<Entry<D>, FailureKind>
     ensures { Does (rules.try_lock_begins number) scene.old result scene.new }
 {

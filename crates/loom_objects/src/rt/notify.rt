@@ -180,7 +180,7 @@ fn notify_one_begins<D: Drop>(scene: &mut Scene<D>, number: usize) -> Result<Ent
     Ok(Entry::AtBranch)
 }
 
-/// The thread comes to a branch point, blocked until it is notified; where it may wake without that, whether it does is to
+/// The thread reaches a branch point, blocked until it is notified; where it may wake without that, whether it does is to
 /// be chosen first. `Misuse` where it is no notifier on which bodies wait, `SecondWaiter` where another thread is inside a wait.
 pub fn wait_begins<D: Drop>(scene: &mut Scene<D>, number: usize) -> Result<Entry<D>, FailureKind>
     ensures { Does (rules.wait_begins number) scene.old result scene.new }

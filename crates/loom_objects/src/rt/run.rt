@@ -14,7 +14,7 @@ use std::alloc::{AllocError, Global};
 pub enum Entry<D> {
     /// It is answered at once: it has no branch point.
     Answered(Reply<D>),
-    /// Its thread has come to a branch point, where a schedule says who goes on.
+    /// Its thread is at a branch point, where a schedule says who goes on.
     AtBranch,
     /// Its thread is to wait on the notifier of this number, and whether it wakes without a notification is to be chosen.
     Spurious(usize),
@@ -36,7 +36,7 @@ pub struct Loading {
 pub enum Passed<D> {
     /// A thread has its turn, or the run is over.
     Turn(Turn<D>),
-    /// Its thread has come to another branch point.
+    /// Its thread is at another branch point.
     AtBranch,
 }
 

@@ -312,7 +312,7 @@ fn rwlock_new<D: Drop>(scene: &mut Scene<D>, value: D) -> Result<Entry<D>, Alloc
     Ok(Entry::Answered(Reply::RwLock(number)))
 }
 
-/// The thread comes to a branch point, and is blocked there while it waits for the lock.
+/// The thread reaches a branch point, and is blocked there while it waits for the lock.
 fn claim_begins<D: Drop>(
     scene: &mut Scene<D>,
     claim: Claim,

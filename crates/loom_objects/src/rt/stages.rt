@@ -18,7 +18,7 @@ pub fn answered<D: Drop>(scene: &Scene<D>, reply: Reply<D>) -> Passed<D>
     Passed::Turn(Turn::Reply(scene.active(), reply))
 }
 
-/// The active thread comes to another branch point, where this is pending.
+/// The active thread reaches another branch point, where this is pending.
 pub fn pend_next<D: Drop>(scene: &mut Scene<D>, task: Task<D>) -> Passed<D>
     ensures { Does (rules.pends_next task false) scene.old (Ok result) scene.new }
 {

@@ -142,7 +142,7 @@ fn block_on_wait<D: Drop>(scene: &mut Scene<D>, number: usize) -> Result<Entry<D
     wait_begins(scene, wakers.notifier)
 }
 
-/// The thread comes to a branch point, where it is to do this with a waker.
+/// The thread reaches a branch point, where it is to do this with a waker.
 pub(crate) fn waker_pends<D: Drop>(
     scene: &mut Scene<D>,
     todo: Task<D>,
@@ -155,14 +155,14 @@ pub(crate) fn waker_pends<D: Drop>(
     Ok(Entry::AtBranch)
 }
 
-/// The thread comes to a branch point, where it is to drop a waker.
+/// The thread reaches a branch point, where it is to drop a waker.
 fn drop_begins<D: Drop>(scene: &mut Scene<D>, number: usize) -> Result<Entry<D>, FailureKind>
     ensures { Does (rules.waker_pends (Task.DropWaker number AfterDrop.Done) number) scene.old result scene.new }
 {
     waker_pends(scene, Task::DropWaker(number, AfterDrop::Done), number)
 }
 
-/// The thread comes to a branch point, where it is to notify by a waker.
+/// The thread reaches a branch point, where it is to notify by a waker.
 fn wake_begins<D: Drop>(
     scene: &mut Scene<D>,
     after: AfterWake,

@@ -1,4 +1,4 @@
-//! Checks that remember states come to main's results in all runs of the bodies, and their failures replay.
+//! Checks that remember states find main's results in all runs of the bodies, and their failures replay.
 use super::checking::{Keeper, found_by};
 use super::finding::{put_values, replays};
 use super::rows::program_rows;
@@ -29,10 +29,10 @@ use std::sync::atomic::Ordering;
 // How many runs a whole search may have where it is compared in parts.
 pub(super) const MOST: usize = 1000;
 
-// More runs than the whole search of any row has that comes to an end.
+// More runs than the whole search of any row has that ends.
 const MOST_OF_A_ROW: usize = 25_000;
 
-// How many states are remembered. Some of these searches come to more, and then find the same.
+// How many states are remembered. Some of these searches meet more, and then find the same.
 const MOST_REMEMBERED: usize = 64;
 
 // Whether both have the same values, in any order and number.

@@ -1,4 +1,4 @@
-//! Covering checks by parts, each alone and by several workers, come to what a covering check comes to, and their texts are their own.
+//! Covering checks by parts, each alone and by several workers, find what a covering check finds, and their texts are their own.
 use super::checking::{Keeper, found_by};
 use super::covering::{MOST, are_values_same, is_cut, is_failing, is_replayed};
 use super::parts::ONE_RUN;
@@ -26,7 +26,7 @@ use std::rt::Clock;
 use std::sync::Wait;
 use std::thread::Threads;
 
-// How many states are remembered of a whole check. Some of these searches come to more, and then find the same.
+// How many states are remembered of a whole check. Some of these searches meet more, and then find the same.
 const MOST_REMEMBERED: usize = 64;
 
 // What so many workers find, each of which makes one run at a time.
@@ -59,7 +59,7 @@ fn find<R: Threads + Wait + Clock + Sync, B: Body<Data = u64> + Same + Apart + S
     )
 }
 
-// Whether so many workers come to main's results in these runs, or fail as the whole search does.
+// Whether so many workers find main's results in these runs, or fail as the whole search does.
 fn is_as_whole<R: Threads + Wait + Clock + Sync, B: Body<Data = u64> + Same + Apart + Send + Sync>(
     rt: &R,
     alloc: Global,

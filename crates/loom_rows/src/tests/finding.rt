@@ -27,9 +27,13 @@ pub enum Shows {
 
 /// A body by its name, how it is checked, and what the check finds.
 pub struct Case {
+    /// The body's name.
     pub name: &'static str,
+    /// How it is checked.
     pub settings: &'static Settings,
+    /// What the text says of the check.
     pub shows: Shows,
+    /// What it is to find.
     pub text: &'static str,
 }
 

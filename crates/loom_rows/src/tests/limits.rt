@@ -10,7 +10,7 @@ static MANY_FENCES: [Case; 2] = [
 
 static MANY_STORES: [Case; 1] = [case!("many_stores", LONG_RUNS, 0, "failed 11 0 65536 choices")];
 
-// Threads that spin come to a run's last node.
+// Threads that spin reach a run's last node.
 static SPINNING: [Case; 2] = [
     case!("spinners", DEFAULTS, 0, "failed 9 0 1000 choices"),
     case!("spinners_forever", WHOLE, 0, "failed 9 0 1000 choices"),

@@ -30,7 +30,7 @@ pub(super) const MOST: usize = 400;
 pub(super) const COMPARED: &str =
     "not compared: orders_equal\nnot compared: three_adds\nnot compared: acq_rel\nnot compared: three_planted\nnot compared: five_counting\nthe same set: 210";
 
-// What a search in parts came to.
+// How a search in parts ended.
 #[derive(Drop)]
 enum Came {
     /// Nothing was left.

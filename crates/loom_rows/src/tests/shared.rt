@@ -45,7 +45,7 @@ const REPLACE: Step = Step::Do(0, Request::Cell(CellOp::Replace(4, Value::Plain(
 
 const JOIN: Step = Step::Do(1, Request::Thread(ThreadOp::Join(2, 2)));
 
-// The first number that the thread was told, and the second one.
+// The first number that the thread got, and the second one.
 const FINISH: Step = Step::Do(0, Request::Thread(ThreadOp::Finish(Value::Both(0, 1))));
 
 // What the thread didn't get.

@@ -1,4 +1,4 @@
-//! What a call comes to, as a text: the reply, and behind it each handle and each value that is read off it.
+//! The answer to a call, as a text: the reply, and behind it each handle and each value that is read off it.
 use loom::alloc::Track;
 use loom::cell::{Cell, ConstPtr, MutPtr, UnsafeCell};
 use loom::future::{AtomicWaker, BlockOn, Waker};
@@ -14,7 +14,7 @@ use loom_objects::failure::Stop;
 use loom_testing::page::Page;
 use std::fmt::Debug;
 
-/// Writes what a call comes to, where atomics hold a `T`: whose turn it is and the reply, or the kind of the failure.
+/// Writes the answer to a call, where atomics hold a `T`: whose turn it is and the reply, or the kind of the failure.
 pub fn put_answer<T: Numeric + Debug + Drop>(page: &mut Page, answer: Result<Turn<u64>, Stop>) {
     match answer {
         Ok(turn) => put_turn::<T>(page, turn),

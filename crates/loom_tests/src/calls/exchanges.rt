@@ -11,7 +11,7 @@ const NUM_A: u64 = 11641914933775430211;
 
 const NUM_B: u64 = 13209405719799650717;
 
-// What the calls come to, where the type holds the numbers so, and in 64 bits so.
+// The answers to the calls, where the type holds the numbers so, and in 64 bits so.
 macro_rules! exchanged {
     ($a:literal, $b:literal) => {
         exchanged!($a, $b, $a, $b)

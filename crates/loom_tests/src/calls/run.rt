@@ -22,7 +22,7 @@ const LIMITS: Limits = Limits {
     max_steps: 40,
 };
 
-/// A call's number and name, and what it comes to, as `put_answer` writes it.
+/// A call's number and name, and the answer to it, as `put_answer` writes it.
 pub type Row = (usize, &'static str, &'static str);
 
 /// The modules of calls.
@@ -56,8 +56,8 @@ impl Kind {
     }
 }
 
-/// Makes the calls of a run of main, and of one thread more where main spawns it, where atomics hold a `T`. Each comes to what
-/// its row says.
+/// Makes the calls of a run of main, and of one thread more where main spawns it, where atomics hold a `T`. Each is answered
+/// as its row says.
 pub fn make<T: Numeric + Debug + Drop, R: Abort + AllocGlobal>(rt: &R, kind: Kind, rows: &[Row]) {
     let mut execution = Execution::new(rt.alloc(), LIMITS).expect(rt, "no memory for a run");
     make_in::<T, R>(rt, &mut execution, kind, rows);

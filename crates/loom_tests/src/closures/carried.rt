@@ -1,6 +1,6 @@
 //! Tests of loom's own by closures, under their names: a check of each finds what loom finds, and what the row of the same name finds,
 //! in as many runs and under the same choices. Objects that only share memory in loom's tests make no operation. Two of loom's tests
-//! stand in `turns`.
+//! are in `turns`.
 mod busy;
 mod cells;
 mod children;
@@ -38,14 +38,14 @@ impl Scene {
     }
 }
 
-/// A test: its name in loom, what main does, and what its check comes to.
+/// A test: its name in loom, what main does, and what its check finds.
 struct Test {
     name: &'static str,
     scene: Scene,
     wanted: Wanted<'static>,
 }
 
-/// A check of the test by these settings comes to what is wanted, and main to each of these values in some run.
+/// A check of the test by these settings finds what is wanted, and main ends with each of these values in some run.
 fn comes_to_each<R: Abort + Host>(
     rt: &R,
     builder: &Builder,
@@ -60,7 +60,7 @@ fn comes_to_each<R: Abort + Host>(
     Ok(())
 }
 
-/// A check of the test by the defaults comes to what is wanted.
+/// A check of the test by the defaults finds what is wanted.
 fn is_found<R: Abort + Host>(rt: &R, test: &Test) -> Result<(), Fail> {
     comes_to_each(rt, &Builder::new(), test, &[])
 }

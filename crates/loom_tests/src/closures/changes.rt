@@ -109,7 +109,7 @@ fn swallowed_stops_end(rt: HostRuntime) -> Result<(), Fail> {
     comes_to(&rt, &Builder::new(), Main::Swallows, wanted, 1, 2000)
 }
 
-/// A thread that goes on is told of once, after a thousand stops that it was answered again.
+/// A thread that goes on is reported once, after a thousand stops that it was answered again.
 #[test]
 fn a_thread_that_goes_on_is_told_once(rt: HostRuntime) -> Result<(), Fail> {
     let search = Search {

@@ -149,7 +149,7 @@ pub(super) struct Run {
 }
 
 impl Run {
-    /// Whether the run came to this value, by these choices.
+    /// Whether the run ended with this value, by these choices.
     pub(super) fn is(&self, value: u64, choices: &[Choice]) -> bool {
         self.value == value && self.choices.as_slice() == choices
     }
@@ -252,7 +252,7 @@ impl Found {
         self.calls == calls && self.counted == counted
     }
 
-    /// Whether main came to this value in some run.
+    /// Whether main ended with this value in some run.
     pub(super) fn has_value(&self, value: u64) -> bool {
         for run in &self.runs {
             if run.value == value {
@@ -290,7 +290,7 @@ impl Found {
         self.is_like(other) && self.calls < other.calls
     }
 
-    /// Whether the check has come to this.
+    /// Whether the check has found this.
     pub(super) fn comes_to(&self, wanted: Wanted) -> bool {
         match wanted {
             Wanted::Complete(count) => self.completes(count),
@@ -302,7 +302,7 @@ impl Found {
     }
 }
 
-/// What a check is to come to.
+/// What a check is to find.
 #[derive(Clone, Copy)]
 pub(super) enum Wanted<'a> {
     /// It is complete, after so many runs.
@@ -569,7 +569,7 @@ pub(super) fn passes<R: Abort + Host>(rt: &R, main: Main, counted: u64) -> Resul
     Ok(())
 }
 
-/// A check of main by these settings comes to this, calls main so often, and so much is counted.
+/// A check of main by these settings finds this, calls main so often, and so much is counted.
 pub(super) fn comes_to<R: Abort + Host>(
     rt: &R,
     builder: &Builder,

@@ -137,7 +137,7 @@ pub(super) fn in_child<R: Host>(
     handle.join(&child)
 }
 
-/// A mutex, and the condition variable by which a change of its data is told.
+/// A mutex, and the condition variable by which a change of its data is notified.
 #[derive(Clone, Copy)]
 pub(super) struct Change {
     mutex: Mutex,
@@ -212,7 +212,7 @@ static MAIN_WAITS: [Choice; 10] = [ZERO, ZERO, ONE, ONE, ONE, ONE, ZERO, ZERO, Z
 /// thread has the lock again, finishes and ends, and so does main.
 static CHILD_WAITS: [Choice; 11] = [ONE, ONE, ONE, ZERO, ZERO, ZERO, ONE, ONE, ONE, ZERO, NONE];
 
-/// The check makes one run, which comes to this value by these choices.
+/// The check makes one run, which ends with this value by these choices.
 fn runs_once<R: Abort + Host>(
     rt: &R,
     main: Main,
@@ -228,7 +228,7 @@ fn runs_once<R: Abort + Host>(
     Ok(())
 }
 
-/// In main and in a thread the form has so many branch points, and comes to this value.
+/// In main and in a thread the form has so many branch points, and answers this value.
 fn comes_to_in_both<R: Abort + Host>(
     rt: &R,
     form: Form,

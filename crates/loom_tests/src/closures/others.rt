@@ -1,4 +1,4 @@
-//! What stands beside the short forms: any operation's call, those that aren't a closure's to hand over, the search's switches,
+//! What is beside the short forms: any operation's call, those that aren't a closure's to hand over, the search's switches,
 //! and a wait without a loop.
 use crate::closures::holds;
 use loom::model::Report;
@@ -122,7 +122,7 @@ fn notifies<R: Wait>(
     Ok(3)
 }
 
-/// What a check of main by these settings comes to; None where there is no report.
+/// What a check of main by these settings finds; None where there is no report.
 fn found<R: Abort + AllocGlobal + Files + Threads + Wait + Clone + Send + 'static>(
     rt: &R,
     builder: &Builder,

@@ -1,5 +1,5 @@
 //! Checks of recorded closures: they make the runs of a check of closures, and call main more seldom, by several workers too. Those that
-//! remember states come to the same values and failures.
+//! remember states find the same values and failures.
 use crate::closures::changes::all_runs;
 use crate::closures::finding::Wanted::Changes;
 use crate::closures::finding::{
@@ -31,7 +31,7 @@ fn recorded_closures_fail_by_the_same_choices(rt: HostRuntime) -> Result<(), Fai
     makes_the_same(&rt, Main::TwoMutexes)
 }
 
-/// A thread that was told the same as in an earlier run, and hands over another operation, is an error of its own.
+/// A thread that hands over another operation than in an earlier run, after the same replies, is an error of its own.
 #[test]
 fn a_recorded_closure_that_changes_is_refused(rt: HostRuntime) -> Result<(), Fail> {
     let text =

@@ -21,7 +21,7 @@ fn a_recorded_check_makes_the_same_runs(rt: HostRuntime) -> Result<(), Fail> {
     Ok(())
 }
 
-/// Main isn't a function of what it is told: it loads more from its second call on.
+/// Main isn't a function of its replies: it loads more from its second call on.
 #[test]
 fn a_recorded_check_refuses_main_that_loads_more(rt: HostRuntime) -> Result<(), Fail> {
     let text =

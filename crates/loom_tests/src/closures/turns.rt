@@ -134,7 +134,7 @@ static BESIDE: [[Choice; 4]; 3] = [
     [ONE, ZERO, ONE, NONE],
 ];
 
-/// Whether these are runs by its choices, in their order, that came to 7.
+/// Whether these are runs by its choices, in their order, that ended with 7.
 fn are_beside(runs: &[Run]) -> bool {
     for k in 0..3 {
         match runs.get(k) {

@@ -25,7 +25,7 @@ abbrev pub different_of : Walked → Option ℕ
 different_of (Made runs cut different) = different
 different_of (Failed runs cut failure choices) = None
 
--- what is counted of these runs, the newest of which stands first
+-- what is counted of these runs, the newest of which is first
 abbrev pub tally_back : Test → Layout → List (List Choice × List ℕ) → Tallied
 tally_back test layout [] = nothing_told test layout
 tally_back test layout (run ∷ runs) = told (tally_back test layout runs) run.1

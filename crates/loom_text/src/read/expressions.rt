@@ -99,7 +99,7 @@ impl<'a> Parser<'a> {
         self.signed(scope, operator, depth)
     }
 
-    // A sign, and what it stands before.
+    // A sign, and what follows it.
     #[cycle(expressions)]
     #[tactic(auto, unfolding(crate::specs::Expressions::signed_as))]
     fn signed(
@@ -145,7 +145,7 @@ impl<'a> Parser<'a> {
         }
     }
 
-    // What stands in parentheses, of which the first was read. A type would be a cast.
+    // What is in parentheses, of which the first was read. A type would be a cast.
     #[cycle(expressions)]
     #[tactic(auto, unfolding(crate::specs::Expressions::enclosed_with))]
     fn enclosed(&mut self, scope: &Scope<'_>, depth: usize) -> Result<Expression, Stop>

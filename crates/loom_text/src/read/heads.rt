@@ -170,7 +170,7 @@ impl<'a> Parser<'a> {
         Ok(())
     }
 
-    // The name of a location, which may stand in brackets.
+    // The name of a location, which may be in brackets.
     #[tactic(auto, unfolding(crate::specs::Heads::initial_name_at))]
     fn initial_name(&mut self) -> Result<Token<'a>, Stop>
         ensures { Gives (λ token. (token.spelling.now, left self.new)) result (initial_name_at (left self.old)) }

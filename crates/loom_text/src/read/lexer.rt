@@ -284,7 +284,7 @@ impl Lexer<'_> {
     }
 }
 
-// What a byte after `C` begins: blanks may stand before the test's name.
+// What a byte after `C` begins: blanks may come before the test's name.
 fn after_head(at: usize, byte: u8) -> State {
     if byte == b'\n' {
         State::Between
@@ -312,7 +312,7 @@ fn in_nested(start: usize, last: u8, open: usize, byte: u8) -> State {
     }
 }
 
-// The number with a digit behind it, up to the largest that may stand behind a minus.
+// The number with a digit behind it, up to the largest that may follow a minus.
 fn with_digit(value: u32, base: u32, digit: Option<u32>) -> Option<u32> {
     let value = value.checked_mul(base)?.checked_add(digit?)?;
     if value <= LARGEST_NUMBER {

@@ -11,7 +11,7 @@ use crate::read::word::Word;
 use crate::test::Kind;
 use std::alloc::Global;
 
-/// How deep expressions, conditions and statements may stand in one another. Own.
+/// How deep expressions, conditions and statements may be nested. Own.
 pub const MAX_DEPTH: usize = 64;
 /// How many operators an expression may have, and how many comparisons a condition. Own.
 pub const MAX_OPERATORS: usize = 256;
@@ -120,7 +120,7 @@ impl<'a> Parser<'a> {
         }
     }
 
-    /// That something else has to stand at the next token.
+    /// That something else has to be at the next token.
     pub(crate) fn expected(&self, wanted: Wanted) -> Stop {
         let token = self.peek();
         match token.kind {
@@ -141,7 +141,7 @@ impl<'a> Parser<'a> {
         }
     }
 
-    /// The depth inside something that stands at this depth.
+    /// The depth inside something at this depth.
     pub(crate) fn deeper(&self, depth: usize) -> Result<usize, Stop>
         ensures ok { IfOk result (λ inside. inside + 1 ≡ depth) }
         ensures err { IsErr result → depth ≡ 0 }
@@ -170,7 +170,7 @@ impl<'a> Parser<'a> {
         Ok(())
     }
 
-    /// The kind that a type stands for, if a type is next. `volatile` and `const` may stand before it, and say nothing here.
+    /// The kind that a type stands for, if a type is next. `volatile` and `const` may come before it, and say nothing here.
     #[tactic(auto, unfolding(crate::specs::Statements::kind_at))]
     pub(crate) fn kind(&mut self) -> Result<Option<Kind>, Stop>
         ensures { Gives (λ kind. (kind, left self.new)) result (kind_at (left self.old)) }

@@ -3,7 +3,7 @@ use crate::error::Problem;
 use crate::read::symbol::Symbol;
 use crate::read::word::Word;
 
-/// A token, and where it stands. Own.
+/// A token, and where it is. Own.
 #[derive(Clone, Copy, Debug, PartialEq, Eq)]
 pub struct Token<'a> {
     /// What it is.
@@ -21,7 +21,7 @@ pub struct Token<'a> {
 /// What a token is. Own.
 #[derive(Clone, Copy, Debug, PartialEq, Eq)]
 pub enum TokenKind {
-    /// What stands after `C`: the test's name.
+    /// What comes after `C`: the test's name.
     TestName,
     /// A name that the text has chosen.
     Name,

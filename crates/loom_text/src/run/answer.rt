@@ -15,8 +15,11 @@ use std::fmt;
 /// What was found of a test (own).
 #[derive(Clone, Copy)]
 pub struct Answer<'a> {
+    /// The test.
     pub test: &'a Test,
+    /// What its final states are made of.
     pub layout: &'a Layout,
+    /// What a search of it found.
     pub found: &'a Found,
 }
 
@@ -61,8 +64,11 @@ pub(crate) enum End<'a> {
 /// What a walk has seen of a test (own).
 #[derive(Clone, Copy)]
 pub struct Sight<'a> {
+    /// The test.
     pub test: &'a Test,
+    /// What its final states are made of.
     pub layout: &'a Layout,
+    /// What a walk through its runs has seen.
     pub seen: &'a Seen,
 }
 
@@ -364,7 +370,7 @@ impl fmt::Display for ShownQuestion<'_> {
     }
 }
 
-// The condition, in parentheses where it stands within another one and they are needed.
+// The condition, in parentheses where it is within another one and they are needed.
 fn write_condition<W: fmt::Write>(
     f: &mut fmt::Formatter<W>,
     test: &Test,

@@ -11,7 +11,7 @@ use std::alloc::{AllocError, Global};
 #[derive(Drop)]
 pub(crate) struct Assembler {
     instructions: Vec<Instruction>,
-    /// Where the instructions stand that come next. Main's stand nowhere.
+    /// Where the instructions are that come next. Main's are nowhere.
     pub(crate) location: Option<Location>,
     // How many registers the text names. Those behind them are for what is computed on the way.
     named: usize,
@@ -121,17 +121,17 @@ impl Assembler {
         self.compute_to(to, Operator::Add, number, Operand::Number(0))
     }
 
-    /// Adds a jump whose place isn't known yet, and answers where it stands.
+    /// Adds a jump whose place isn't known yet, and answers where it is.
     pub(crate) fn jump(&mut self) -> Result<usize, AllocError> {
         self.add(Instruction::Jump(0))
     }
 
-    /// Adds a jump if the number is 0, whose place isn't known yet, and answers where it stands.
+    /// Adds a jump if the number is 0, whose place isn't known yet, and answers where it is.
     pub(crate) fn jump_if_zero(&mut self, number: Operand) -> Result<usize, AllocError> {
         self.add(Instruction::JumpIfZero(number, 0))
     }
 
-    /// The jump that stands at this place leads here.
+    /// The jump at this place leads here.
     pub(crate) fn land(&mut self, jump: usize) {
         let here = self.here();
         if let Some(instruction) = self.instructions.get_mut(jump) {

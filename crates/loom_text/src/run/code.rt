@@ -55,6 +55,7 @@ pub struct Asked {
     /// The register for the answer. A list of numbers goes into this one and those behind it, and so do the two answers of a
     /// compare-exchange: whether it has exchanged, and what it found.
     pub keep: usize,
+    /// What is handed over.
     pub operation: Operation,
 }
 
@@ -118,6 +119,7 @@ pub enum Operation {
 /// A thread's code (own).
 #[derive(Drop)]
 pub struct Code {
+    /// What it does, from the first one on. Jumps name an instruction by its place.
     pub instructions: Sequence<Instruction>,
     /// How many registers it has.
     pub registers: usize,

@@ -1,4 +1,4 @@
-//! Laws of counted states. The contract of each function is a law. The definitions stand in `specs/Run/Laws.antt`.
+//! Laws of counted states. The contract of each function is a law. The definitions are in `specs/Run/Laws.antt`.
 ghost use Rattle.loom_text.specs.Run.Laws.{CoveredLaw, EachRunLaw, NeverLaw, NotBeforeItselfLaw, OrderLaw, SharedRunLaw, StatesLaw};
 
 /// The states are the results that the filter lets through, as far as they are shown, each with as many runs as had it.

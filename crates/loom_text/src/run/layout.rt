@@ -73,7 +73,7 @@ fn add_by_name(
     Ok(())
 }
 
-// Where the first term of a later name stands, of those from this place on.
+// Where the first term of a later name is, of those from this place on.
 fn place_by_name(terms: &[Term], from: usize, test: &Test, name: &str) -> usize {
     for (place, other) in terms.iter().enumerate() {
         if place >= from && name < test.name_of(*other) {

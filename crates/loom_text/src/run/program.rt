@@ -10,7 +10,7 @@ use loom_views::sequence::Sequence;
 use std::alloc::{AllocError, Global};
 use std::sync::atomic::Ordering;
 
-/// The code of the test, which stands in this file. Main results in the numbers of the layout's terms. It fails only where a
+/// The code of the test, which is in this file. Main results in the numbers of the layout's terms. It fails only where a
 /// growth is refused (own).
 pub fn assemble(
     alloc: Global,

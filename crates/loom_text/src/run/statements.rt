@@ -7,7 +7,7 @@ use loom_objects::location::Location;
 use std::alloc::AllocError;
 use std::sync::atomic::Ordering;
 
-/// The code of the statements, one after another. They stand in this file.
+/// The code of the statements, one after another. They are in this file.
 #[cycle(put_statements)]
 pub(crate) fn put_statements(
     code: &mut Assembler,

@@ -39,7 +39,9 @@ pub struct Summary {
     pub positive: u64,
     /// How many ended with another one.
     pub negative: u64,
+    /// Whether the condition is met always, sometimes or never.
     pub observation: Observation,
+    /// Whether the test holds.
     pub verdict: Verdict,
 }
 

@@ -82,7 +82,7 @@ fn bytes_of<R: AllocGlobal + Files>(rt: &R, file: &str) -> io::Result<Vec<u8>> {
     Ok(bytes)
 }
 
-/// Does this with the test, which stands in the file of this name.
+/// Does this with the test, which is in the file of this name.
 pub(crate) fn judge_test<R: Host + Clock + Sync, O: Write, E: Write>(
     rt: &R,
     asked: &Asked,

@@ -45,7 +45,7 @@ pub struct Asked<'a> {
 // How many operations a run may make, unless an option says it. Tests are small, and one that never ends is to end soon.
 const MAX_STEPS: usize = 10_000;
 
-// What stands behind an option's name.
+// What follows an option's name.
 #[derive(Clone, Copy)]
 enum Takes {
     Nothing,
@@ -60,7 +60,7 @@ enum Takes {
 // An option of the program.
 #[derive(Clone, Copy)]
 struct Known {
-    // The name, which stands behind `--`.
+    // The name, which follows `--`.
     name: &'static str,
     takes: Takes,
     help: &'static str,
@@ -83,7 +83,7 @@ const FLAG: Known = Known {
 const OTHER_SEARCHES: [&str; 5] = ["reduce", "whole", "preemption-bound", "replay", "walk"];
 
 // All options, in the order of the help, which clap adds itself.
-static OPTIONS: [Known; 16] = [
+static OPTIONS: [Known; 17] = [
     Known {
         name: "reduce",
         help: "try another thread only where an access calls for it",
@@ -105,6 +105,12 @@ static OPTIONS: [Known; 16] = [
         name: "states",
         takes: Takes::Number("N"),
         help: "remember at most this many states",
+        conflicts: &OTHER_SEARCHES,
+        ..FLAG
+    },
+    Known {
+        name: "snapshots",
+        help: "go on from copies of where earlier runs stood, which finds the same",
         conflicts: &OTHER_SEARCHES,
         ..FLAG
     },
@@ -286,6 +292,7 @@ fn builder(matches: &ArgMatches) -> Builder {
         max_different: Some(MOST_DIFFERENT),
         reduce: matches.get_flag("reduce"),
         preemption_bound: matches.get_one("preemption-bound"),
+        snapshots: matches.get_flag("snapshots"),
         location: true,
         ..defaults
     }

@@ -212,7 +212,7 @@ neither-four false false true d = refl
 neither-four false false false true = refl
 neither-four false false false false = refl
 
--- the newest store stands in the newest slot
+-- the newest store is in the newest slot
 newest-number : (n : ℕ) → 0 < n → number_in_slot n ((n + 6) % 7) ≡ n - 1
 unfolding number_in_slot
 newest-number n h = omega arith

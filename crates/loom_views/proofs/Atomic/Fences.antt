@@ -37,7 +37,7 @@ number-at n m h i = omega arith
 pub length-kept : (stores : List StorePoints) → length (kept_stores stores) ≡ min (length stores) 7
 length-kept stores = length-drop (length stores - 7) stores ∙ omega arith
 
--- where the kept store of number i from the oldest stands
+-- where the kept store of number i from the oldest is
 kept-at : (stores : List StorePoints) (i : ℕ) → i < min (length stores) 7 → get_or (kept_stores stores) i blank ≡ in_slot stores ((length stores - min (length stores) 7 + i) % 7)
 kept-at stores i h =
     let n = length stores in

@@ -48,7 +48,7 @@ filter-passes : (p : ℕ → Bool) (xs : List ℕ) → AllByRecursion (λ x. p x
 filter-passes p [] = tt
 filter-passes p (x ∷ xs) = ⊎_elim (λ e. rw e (e, filter-passes p xs)) (λ e. rw e (filter-passes p xs)) (cases_Bool (p x))
 
--- the stores beyond those that the loop has come to, and the one that is left out
+-- the stores beyond those that the loop has reached, and the one that is left out
 pub joined-beyond : (order : List ℕ) (stores : List Store) (p : ℕ → Bool) (n i : ℕ) → n ≤ i → store_at (orders_joined order stores (filter p (upto n))) i ≡ store_at stores i
 joined-beyond order stores p n i l = joined-other order stores (filter p (upto n)) i (filtered (λ j. i ≢ j) p (upto n) (all_upto (λ j. i ≢ j) n (λ j b e. omega arith)))
 
@@ -58,7 +58,7 @@ more-yes p i e = ap (filter p) (upto-push i) ∙ filter-append p (upto i) (i ∷
 more-no : (p : ℕ → Bool) (i : ℕ) → p i ≡ false → filter p (upto (i + 1)) ≡ filter p (upto i)
 more-no p i e = ap (filter p) (upto-push i) ∙ filter-append p (upto i) (i ∷ []) ∙ ap (λ b. filter p (upto i) ++ cond b (i ∷ []) []) e ∙ append-nil (filter p (upto i))
 
--- the loop comes to one more slot, whose store's order contains the read store's, or doesn't
+-- the loop reaches one more slot, whose store's order contains the read store's, or doesn't
 module _ (order before : List ℕ) (stores now : List Store) (slot i : ℕ) (e : now ≡ orders_joined order stores (filter (is_slot_above before stores slot) (upto i))) where
   abbrev p : ℕ → Bool
   p = is_slot_above before stores slot

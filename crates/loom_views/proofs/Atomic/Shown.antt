@@ -53,7 +53,7 @@ touch-is g t a None (Some n) view h l s z = absurd z
 touch-is g t a (Some k) None view h l s z = absurd z
 touch-is g t a (Some k) (Some n) view h l s z = touch-seen g t k a h ∙ rw (z.1, s.counted, counts-at g a t l) refl
 
--- a store is seen from a point just where a touch has come to its view
+-- a store is seen from a point just where a touch is in its view
 pub seen-is : (g : Graph) (points : StorePoints) (store : Store) (a : ℕ) (view : List ℕ) → IsChained g → Shows g a view → ShowsStore g points store → is_seen g points a ≡ is_touch_in store.first_seen.versions view
 unfolding is_seen
 seen-is g points store a view h s z = list_any-agree (λ t. is_touch_seen g t (touch_of points t) a) (λ t. is_version_seen (slice_index_or store.first_seen.versions t None) (slice_index view t)) threads (at 0 (omega arith), (at 1 (omega arith), (at 2 (omega arith), (at 3 (omega arith), (at 4 (omega arith), tt)))))

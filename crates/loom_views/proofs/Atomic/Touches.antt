@@ -9,7 +9,7 @@ use Rattle.loom_views.specs.Atomic.Ring.{is_version_seen, is_touch_in}
 use Rattle.loom_views.specs.Atomic.Touches.{touch_in, touches_in, IsPadded}
 use Rattle.loom_views.proofs.Views.Lanes.{counts_set, lane_above}
 
--- what stands above the threads' lanes stays
+-- what is above the threads' lanes stays
 pub padded_on : (word old : ℕ) → word < 2 ^ 128 → ((t : ℕ) → 5 ≤ t → lane word t ≡ lane old t) → IsPadded old → IsPadded word
 padded_on word old h same p =
     let five : word / 2 ^ 80 % 2 ^ 16 ≡ old / 2 ^ 80 % 2 ^ 16 = same 5 (omega arith) in
@@ -58,7 +58,7 @@ at_five p h (suc (suc (suc (suc (suc t))))) l = absurd (omega (arith, l))
 none_at : (p : ℕ → Bool) → ((t : ℕ) → t < 5 → p t ≡ false) → list_any p threads ≡ false
 none_at p h = or_from (p 0) _ (h 0 (omega arith)) (or_from (p 1) _ (h 1 (omega arith)) (or_from (p 2) _ (h 2 (omega arith)) (or_from (p 3) _ (h 3 (omega arith)) (or_from (p 4) _ (h 4 (omega arith)) refl))))
 
--- ---- whether a touch has come to a view
+-- ---- whether a touch is in a view
 
 later : (m n : ℕ) → n < m → is_version_seen (touch_in m) n ≡ false
 later m n l = ⊎_elim

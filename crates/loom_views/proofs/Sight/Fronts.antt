@@ -1,5 +1,5 @@
--- What is seen of points in two graphs at once: where counts in the one stand in the same order as counts in the other, they go on so when the
--- graphs grow alike.
+-- What is seen of points in two graphs at once: where counts in the one are in the same order as counts in the other, they go on so when
+-- the graphs grow alike.
 use Rattle.std.proofs.Common.{suc, ◌≡◌, ℕ, ◌+◌, ◌<◌, ◌≤◌, max, Bool, true, false, not, cond, ◌||◌, ◌&&◌, List, [], ◌∷◌, ◌++◌, length, refl, ap, sym, ◌∙◌, arith, subst, inl, inr, ⊎_elim, Option, Some, None}
 use Rattle.std.specs.Prelude.{◌==◌, nat_le}
 use Rattle.std.specs.List.{list_any, list_all, find, AllByRecursion}

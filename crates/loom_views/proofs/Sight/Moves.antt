@@ -22,7 +22,7 @@ use Rattle.loom_views.proofs.Sight.Fronts.{SameFront, no_touch, both_touch, Late
 use Rattle.loom_views.proofs.Sight.Shapes.{is_there, Both, no_one, both, both_more, SameThread, same_point, same_cell, SameStamp, Same, acting, by_place, by_thread, front_later, touch_later, thread_later, points_later, threads_later, thread_set, place_set, place_added, stamp_set, stamp_added, global_set}
 
 module _ (R : ℕ → ℕ → ℕ → Type 0) (rising : IsRising R) where
-  -- both come to points of which the same is seen, or fail alike
+  -- both lead to points of which the same is seen, or fail alike
   abbrev pub MovesSame : Result Points FailureKind → Result Points FailureKind → Type 0
   MovesSame (Ok p) (Ok q) = Same R p q
   MovesSame (Ok p) (Err kind) = ⊥
@@ -207,7 +207,7 @@ module _ (R : ℕ → ℕ → ℕ → Type 0) (rising : IsRising R) where
         full_too = full_raised h t ls (Some t) (none t l).chain_too (eq-eqb t t refl) raises.full_too;
       }
 
-  -- both come to points of which the same is seen, or fail alike; but each may find that there are too many versions
+  -- both lead to points of which the same is seen, or fail alike; but each may find that there are too many versions
   abbrev pub RaisesSame : Result Points FailureKind → Result Points FailureKind → Type 0
   RaisesSame (Ok p) (Ok q) = Same R p q
   RaisesSame (Ok p) (Err kind) = kind ≡ TooManyVersions

@@ -44,7 +44,7 @@ get_threads f (suc (suc (suc zero))) l = refl
 get_threads f (suc (suc (suc (suc zero)))) l = refl
 get_threads f (suc (suc (suc (suc (suc t))))) l = absurd (omega arith)
 
--- the last seven stores stand in the slots of their numbers
+-- the last seven stores are in the slots of their numbers
 number_again : (m n : ℕ) → n < m → m ≤ n + 7 → number_in_slot m (n % 7) ≡ n
 unfolding number_in_slot
 number_again m n a b = omega arith

@@ -1,4 +1,4 @@
--- How many elements pass a test, for tests that hold of all that stands behind an element for which they hold.
+-- How many elements pass a test, for tests that hold of all that is behind an element for which they hold.
 use Rattle.std.proofs.Common.{suc, ◌≡◌, ℕ, ◌≤◌, max, Bool, true, false, not, cond, ◌||◌, ◌&&◌, List, [], ◌∷◌, length, map, refl, ap, sym, ◌∙◌, arith, ⊎_elim}
 use Rattle.std.specs.Prelude.{leb, Option, Some}
 use Rattle.std.specs.List.{list_any, list_all, find, AllByRecursion}
@@ -6,7 +6,7 @@ use Rattle.std.specs.Option.{option_map_or}
 use Rattle.std.proofs.lemmas.Bool.{cases_Bool, cond-true, cond-false, or_left, or_right, le-leb, lt-leb, or_cases, and_from, false≢true}
 use Rattle.loom_views.specs.Graph.{count}
 
--- where the test holds, it holds of all that stands behind
+-- where the test holds, it holds of all that is behind
 abbrev pub IsDownward : {X : Type 0} → (X → Bool) → List X → Type 0
 IsDownward p [] = Unit {0}
 IsDownward p (x ∷ xs) = (p x ≡ true → AllByRecursion (λ y. p y ≡ true) xs) × IsDownward p xs

@@ -1,4 +1,4 @@
--- A graph grows by a thread's moves: what stood keeps being shown, for every other place and thread.
+-- A graph grows by a thread's moves: what was there keeps being shown, for every other place and thread.
 use Rattle.std.proofs.Common.{◌≢◌, ℕ, List, refl, Some, None}
 use Rattle.std.proofs.lemmas.Bool.{ne_eqb}
 use Rattle.loom_views.specs.declared.rt.synchronize.ThreadViews.{ThreadViews}

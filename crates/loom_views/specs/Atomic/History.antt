@@ -184,7 +184,7 @@ conflicts s kinds passed =
 abbrev pub scene_raised : ℕ → Scene → Scene
 scene_raised t s = record s { graph = moved_raising s.graph (s.thread.present ∷ []) t; thread = record s.thread { present = length s.graph } }
 
--- comes to this graph and these stores
+-- gets this graph and these stores
 abbrev pub scene_ordered : Scene → Ordered → Scene
 scene_ordered s o = record s { graph = o.graph; history = record s.history { stores = o.stores } }
 

@@ -22,7 +22,7 @@ abbrev pub is_version_seen : Option ℕ → ℕ → Bool
 is_version_seen None n = false
 is_version_seen (Some m) n = nat_le m n
 
--- a touch of some thread has come to the view
+-- a touch of some thread is in the view
 abbrev pub is_touch_in : List (Option ℕ) → List ℕ → Bool
 is_touch_in versions view = list_any (λ t. is_version_seen (slice_index_or versions t None) (slice_index view t)) threads
 

@@ -5,7 +5,7 @@ use Rattle.std.proofs.lemmas.Bool.{cases_eq, eq-eqb, ne_eqb}
 use Rattle.loom_views.specs.Limits.{highest_version}
 use Rattle.loom_views.specs.Lanes.{lane, counts_in, word_of as counts_word}
 
--- what stands in the lane of a thread that hasn't touched the store: more than any version
+-- what is in the lane of a thread that hasn't touched the store: more than any version
 abbrev pub no_version : ℕ
 no_version = highest_version + 1
 
@@ -17,7 +17,7 @@ untouched = None ∷ None ∷ None ∷ None ∷ None ∷ []
 abbrev pub touch_in : ℕ → Option ℕ
 touch_in n = cond (n == no_version) None (Some n)
 
--- the first touches that stand in the lanes of the five threads
+-- the first touches in the lanes of the five threads
 abbrev pub touches_in : ℕ → List (Option ℕ)
 touches_in word = map touch_in (counts_in word)
 

@@ -10,21 +10,21 @@ use Rattle.loom_views.specs.Laws.Moves.{Leads}
 use Rattle.loom_views.specs.Sight.{seen}
 use Rattle.loom_views.specs.Views.{Accessed, Points, ShowsViews, opening, points_after_acquire, points_after_fence, points_after_join, points_after_load, points_after_raise, points_after_read, points_after_release, points_after_spawn, points_after_stamp, points_after_stamp_acquire, points_after_stamp_release, points_after_store, points_after_unsync_load, points_after_update_fail, points_after_update_read, points_after_update_write, points_after_with_mut, points_after_with_mut_end, points_after_write, points_after_yield, points_with_atomic, points_with_cell, points_with_point, points_with_stamp, readable_slots_of}
 
--- two moves that raise versions come to points of which the same is seen, or fail alike; but each may find that there are too many
+-- two moves that raise versions lead to points of which the same is seen, or fail alike; but each may find that there are too many
 abbrev pub RaisesAlike : Result Points FailureKind → Result Points FailureKind → Type 0
 RaisesAlike (Ok p) (Ok q) = seen p ≡ seen q
 RaisesAlike (Ok p) (Err kind) = kind ≡ TooManyVersions
 RaisesAlike (Err kind) (Ok q) = kind ≡ TooManyVersions
 RaisesAlike (Err kind) (Err other) = (kind ≡ other) ⊎ (kind ≡ TooManyVersions) ⊎ (other ≡ TooManyVersions)
 
--- two moves come to points of which the same is seen, or fail alike
+-- two moves lead to points of which the same is seen, or fail alike
 abbrev pub MovesAlike : Result Points FailureKind → Result Points FailureKind → Type 0
 MovesAlike (Ok p) (Ok q) = seen p ≡ seen q
 MovesAlike (Ok p) (Err kind) = ⊥
 MovesAlike (Err kind) (Ok q) = ⊥
 MovesAlike (Err kind) (Err other) = kind ≡ other
 
--- two accesses answer the same value, and come to points of which the same is seen, or fail alike
+-- two accesses answer the same value, and lead to points of which the same is seen, or fail alike
 abbrev pub AccessesAlike : Result Accessed FailureKind → Result Accessed FailureKind → Type 0
 AccessesAlike (Ok a) (Ok b) = (a.value ≡ b.value) × (seen a.points ≡ seen b.points)
 AccessesAlike (Ok a) (Err kind) = ⊥

@@ -85,7 +85,7 @@ impl FirstSeen {
         }
     }
 
-    /// Whether a touch has come to this view.
+    /// Whether a touch is in this view.
     fn is_seen_from(&self, view: &VersionVec) -> bool
         ensures { result ≡ is_touch_in self.now.versions view.now }
     {
@@ -172,6 +172,8 @@ impl State {
     }
 
     /// Makes a store where there is room for another one.
+    // Inlined, as what it calls.
+    #[inline(always)]
     fn make(
         &mut self,
         thread: usize,
@@ -263,7 +265,7 @@ impl State {
     }
 
     /// Loads from the store in a slot: its value, and its view where the ordering acquires. It is `OpenAccess` while a mutation
-    /// is open, and `Race` with a mutation that hasn't come to the thread (loom's `rt/atomic.rs`).
+    /// is open, and `Race` with a mutation that the thread doesn't know of (loom's `rt/atomic.rs`).
     pub fn load(
         &mut self,
         thread: usize,
@@ -285,7 +287,7 @@ impl State {
     }
 
     /// Stores a value. It is `OpenAccess` while a mutation is open, `Race` with a mutation or a load that doesn't synchronize
-    /// which hasn't come to the thread, and `TooManyStores` after 65,535 stores (loom's `rt/atomic.rs`; the limit is own).
+    /// which the thread doesn't know of, and `TooManyStores` after 65,535 stores (loom's `rt/atomic.rs`; the limit is own).
     pub fn store(
         &mut self,
         thread: usize,
@@ -358,7 +360,7 @@ impl State {
     }
 
     /// Loads the newest value without synchronizing. It is `OpenAccess` while a mutation is open, and `Race` with a store or a
-    /// mutation that hasn't come to the thread (loom's `rt/atomic.rs`).
+    /// mutation that the thread doesn't know of (loom's `rt/atomic.rs`).
     pub fn unsync_load(&mut self, views: &ThreadViews) -> Result<u64, FailureKind>
         ensures shown { (t : ℕ) (s : Scene) → ShowsScene t s views.now self.old → 0 < length s.history.stores →
             AnswersAs t (unsync_load_step s) result views.now self.new }
@@ -369,7 +371,7 @@ impl State {
     }
 
     /// Opens a mutation, and gives the newest value. It is `OpenAccess` while another is open, and `Race` with any access that
-    /// hasn't come to the thread (loom's `rt/atomic.rs`).
+    /// the thread doesn't know of (loom's `rt/atomic.rs`).
     pub fn with_mut(&mut self, views: &ThreadViews) -> Result<u64, FailureKind>
         ensures shown { (t : ℕ) (s : Scene) → ShowsScene t s views.now self.old → 0 < length s.history.stores →
             AnswersAs t (mutate_step s) result views.now self.new }
@@ -380,7 +382,7 @@ impl State {
         Ok(self.stores[self.newest()].value)
     }
 
-    /// Closes a mutation, with the value that it leaves. It is `Race` with any access that hasn't come to the thread (loom's
+    /// Closes a mutation, with the value that it leaves. It is `Race` with any access that the thread doesn't know of (loom's
     /// `rt/atomic.rs`).
     pub fn with_mut_end(&mut self, views: &ThreadViews, value: u64) -> Result<(), FailureKind>
         ensures shown { (t : ℕ) (s : Scene) → ShowsScene t s views.now self.old → 0 < length s.history.stores →
@@ -473,7 +475,7 @@ impl Same for Store {
 }
 
 impl FirstSeen {
-    /// Their counts stand too.
+    /// Adds their counts.
     fn stand(&self, standing: &mut Standing) {
         self.versions.stand(standing);
     }
@@ -489,7 +491,7 @@ impl FirstSeen {
 }
 
 impl Store {
-    /// Its counts stand too.
+    /// Adds its counts.
     fn stand(&self, standing: &mut Standing) {
         standing.add_all(&self.order);
         self.sync.stand(standing);
@@ -534,7 +536,7 @@ fn push_ranked(
 }
 
 impl State {
-    /// Its counts stand too (own).
+    /// Adds its counts (own).
     pub fn stand(&self, standing: &mut Standing) {
         standing.add_all(&self.loaded_at);
         standing.add_all(&self.stored_at);

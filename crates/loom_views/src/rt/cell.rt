@@ -32,7 +32,7 @@ impl AccessRecords {
         }
     }
 
-    /// Tests a read of a thread, and records it. It is `Race` with a write that hasn't come to the thread (loom's
+    /// Tests a read of a thread, and records it. It is `Race` with a write that the thread doesn't know of (loom's
     /// `rt/cell.rs`).
     pub fn read(&mut self, views: &ThreadViews) -> Result<(), FailureKind>
         ensures shown { (g : Graph) (present : ℕ) (cell : Accesses) → IsChained g → Shows g present views.now.present → ShowsAccesses g cell self.old →
@@ -46,7 +46,7 @@ impl AccessRecords {
         Ok(())
     }
 
-    /// Tests a write of a thread, and records it. It is `Race` with a write or a read that hasn't come to the thread (loom's
+    /// Tests a write of a thread, and records it. It is `Race` with a write or a read that the thread doesn't know of (loom's
     /// `rt/cell.rs`).
     pub fn write(&mut self, views: &ThreadViews) -> Result<(), FailureKind>
         ensures shown { (g : Graph) (present : ℕ) (cell : Accesses) → IsChained g → Shows g present views.now.present → ShowsAccesses g cell self.old →
@@ -68,7 +68,7 @@ impl Same for AccessRecords {
 }
 
 impl AccessRecords {
-    /// Their counts stand too (own).
+    /// Adds their counts (own).
     pub fn stand(&self, standing: &mut Standing) {
         standing.add_all(&self.reads);
         standing.add_all(&self.writes);

@@ -1,4 +1,4 @@
-//! The counts of views by their ranks: of each thread's counts that stand somewhere in them, how many others are below. Rules see no
+//! The counts of views by their ranks: of each thread's counts that are somewhere in them, how many others are below. Rules see no
 //! more of counts than their order, so views that are the same by their ranks are the same to them (own).
 
 ghost use Rattle.std.specs.Prelude.{ℕ, ◌≡◌, ◌∷◌, [], ◌++◌, ◌<◌, ◌≤◌, IfOk, IfSome, IsTrue, OnOk, Some, map, replicate, slice_get};
@@ -46,7 +46,7 @@ impl Standing {
         }
     }
 
-    /// A count of a thread stands too (own).
+    /// Adds a count of a thread (own).
     pub fn add(&mut self, thread: usize, count: u16) {
         let place = usize::from(count);
         if thread >= MAX_THREADS {
@@ -59,7 +59,7 @@ impl Standing {
         self.add_further(thread, place);
     }
 
-    /// So does one behind the first ones.
+    /// Adds one behind the first ones.
     fn add_further(&mut self, thread: usize, place: usize) {
         if thread >= MAX_THREADS || place < BITS || place >= RANKED {
             return;
@@ -70,14 +70,14 @@ impl Standing {
         }
     }
 
-    /// So does one that there may be (own).
+    /// Adds one that there may be (own).
     pub fn add_optional(&mut self, thread: usize, count: Option<u16>) {
         if let Some(count) = count {
             self.add(thread, count);
         }
     }
 
-    /// So does each count of a vector (own).
+    /// Adds each count of a vector (own).
     pub fn add_all(&mut self, view: &VersionVec) {
         if view.word() == 0 {
             return;
@@ -95,7 +95,7 @@ impl Standing {
         self.first[4] |= 1 << (usize::from(fourth) % BITS);
     }
 
-    /// So does a count of each thread.
+    /// Adds a count of each thread.
     fn add_each(&mut self, counts: &[u16; MAX_THREADS]) {
         for thread in 0..MAX_THREADS {
             self.add(thread, counts[thread]);

@@ -65,7 +65,7 @@ impl ThreadViews {
         self.present.join(view);
     }
 
-    /// Whether all accesses that a vector joins have come to the thread. An access that conflicts with one that hasn't is a race
+    /// Whether the thread knows of all accesses that a vector joins. An access that conflicts with an unknown one is a race
     /// (loom's `rt/atomic.rs`).
     pub fn is_after(&self, accesses: &VersionVec) -> bool
         ensures { result ≡ within accesses.now self.now.present }
@@ -213,7 +213,7 @@ impl Same for Synchronize {
 }
 
 impl ThreadViews {
-    /// Its counts stand too (own).
+    /// Adds its counts (own).
     pub fn stand(&self, thread: usize, standing: &mut Standing) {
         standing.add_all(&self.present);
         standing.add_all(&self.released);
@@ -238,7 +238,7 @@ impl ThreadViews {
 }
 
 impl Synchronize {
-    /// Its counts stand too (own).
+    /// Adds its counts (own).
     pub fn stand(&self, standing: &mut Standing) {
         standing.add_all(&self.happens_before);
     }

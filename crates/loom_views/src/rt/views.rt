@@ -332,7 +332,7 @@ impl Views {
     }
 
     /// The slots of an atomic that a reader may choose, once the thread has raised its version. `OrdersEqual` where two stores
-    /// have equal places in the modification order, which no run comes to (law `crate::laws::choices_never_meet_equal_orders`),
+    /// have equal places in the modification order, which no run meets (law `crate::laws::choices_never_meet_equal_orders`),
     /// `Misuse` where there is no such thread or atomic (loom's `rt/atomic.rs`).
     pub fn readable(
         &self,
@@ -353,7 +353,7 @@ impl Views {
     }
 
     /// A thread, which has raised its version, loads from the store in a slot of an atomic, and answers its value.
-    /// `OpenAccess` while a mutation is open, `Race` with one that hasn't come to the thread, `Misuse` where there is no such
+    /// `OpenAccess` while a mutation is open, `Race` with one that the thread doesn't know of, `Misuse` where there is no such
     /// thread, atomic or slot; then nothing changes (loom's `rt/atomic.rs`).
     pub fn load(
         &mut self,
@@ -385,7 +385,7 @@ impl Views {
     }
 
     /// A thread, which has raised its version, stores to an atomic. `OpenAccess` while a mutation is open, `Race` with
-    /// one or with a load beside atomics that hasn't come to the thread, `TooManyStores` at the 65,536th, `Misuse` where there
+    /// one or with a load beside atomics that the thread doesn't know of, `TooManyStores` at the 65,536th, `Misuse` where there
     /// is no such thread or atomic; then nothing changes (loom's `rt/atomic.rs`).
     pub fn store(
         &mut self,
@@ -486,7 +486,7 @@ impl Views {
     }
 
     /// A thread loads the newest value of an atomic without synchronizing. `OpenAccess` while a mutation is open, `Race` with
-    /// a store or a mutation that hasn't come to the thread, `Misuse` where there is no such thread or atomic (loom's
+    /// a store or a mutation that the thread doesn't know of, `Misuse` where there is no such thread or atomic (loom's
     /// `rt/atomic.rs`).
     pub fn unsync_load(&mut self, thread: usize, place: usize) -> Result<u64, FailureKind>
         ensures shown { (p : Points) → ShowsViews p self.old → LoadsAs (points_after_unsync_load p thread place) result self.new }
@@ -503,7 +503,7 @@ impl Views {
     }
 
     /// A thread opens a mutation of an atomic, and is answered the newest value. `OpenAccess` while another is open, `Race`
-    /// with any access that hasn't come to the thread, `Misuse` where there is no such thread or atomic (loom's
+    /// with any access that the thread doesn't know of, `Misuse` where there is no such thread or atomic (loom's
     /// `rt/atomic.rs`).
     pub fn with_mut(&mut self, thread: usize, place: usize) -> Result<u64, FailureKind>
         ensures shown { (p : Points) → ShowsViews p self.old → LoadsAs (points_after_with_mut p thread place) result self.new }
@@ -519,8 +519,8 @@ impl Views {
         }
     }
 
-    /// A thread closes a mutation of an atomic, with the value that it leaves. `Race` with any access that hasn't come to the
-    /// thread, `Misuse` where there is no such thread or atomic (loom's `rt/atomic.rs`).
+    /// A thread closes a mutation of an atomic, with the value that it leaves. `Race` with any access that the thread
+    /// doesn't know of, `Misuse` where there is no such thread or atomic (loom's `rt/atomic.rs`).
     pub fn with_mut_end(
         &mut self,
         thread: usize,
@@ -552,7 +552,7 @@ impl Views {
         self.places.push(Kept::Cell(AccessRecords::new(&views)))
     }
 
-    /// A thread reads a cell, which is recorded. `Race` with a write that hasn't come to the thread, `Misuse` where there is no
+    /// A thread reads a cell, which is recorded. `Race` with a write that the thread doesn't know of, `Misuse` where there is no
     /// such thread or cell; then nothing changes (loom's `rt/cell.rs`).
     pub fn read(&mut self, thread: usize, place: usize) -> Result<(), FailureKind>
         ensures shown { (p : Points) → ShowsViews p self.old → MovesAs (points_after_read p thread place) result self.new }
@@ -568,7 +568,7 @@ impl Views {
         }
     }
 
-    /// A thread writes a cell, which is recorded. `Race` with a write or a read that hasn't come to the thread, `Misuse` where
+    /// A thread writes a cell, which is recorded. `Race` with a write or a read that the thread doesn't know of, `Misuse` where
     /// there is no such thread or cell; then nothing changes (loom's `rt/cell.rs`).
     pub fn write(&mut self, thread: usize, place: usize) -> Result<(), FailureKind>
         ensures shown { (p : Points) → ShowsViews p self.old → MovesAs (points_after_write p thread place) result self.new }
@@ -586,7 +586,7 @@ impl Views {
 }
 
 impl Kept {
-    /// Its counts stand too.
+    /// Adds its counts.
     fn stand(&self, standing: &mut Standing) {
         match self {
             Kept::Point(view) => view.stand(standing),

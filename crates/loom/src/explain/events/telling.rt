@@ -32,7 +32,7 @@ pub struct Teller<'a, W> {
     show: &'a W,
     /// The events so far, in order.
     events: Vec<Event>,
-    /// What a thread was told last, until it hands over its next operation.
+    /// The last reply to a thread, until it hands over its next operation.
     reply: Option<Reply<()>>,
     /// The data of that.
     told: Option<String>,

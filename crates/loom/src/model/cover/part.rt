@@ -25,8 +25,8 @@ use loom_objects::failure::Failure;
 use loom_views::same::Same;
 use std::alloc::Global;
 
-/// What it came to that a part of a covering search was worked on. `runs` counts the runs that ended without a failure, and `met` those
-/// that were given up where a state was noted (own).
+/// How the work on a part of a covering search went. `runs` counts the runs that ended without a failure, and `met` those that were
+/// given up where a state was noted (own).
 #[derive(Debug, Drop)]
 pub enum PartCovered {
     /// None of its runs failed. The part says whether more are left.
@@ -43,7 +43,7 @@ pub enum PartCovered {
     },
 }
 
-/// What it came to that runs were made above a floor.
+/// How the runs above a floor went.
 #[derive(Drop)]
 pub enum Above {
     /// None failed, and more are left or none.
@@ -61,7 +61,7 @@ pub enum Above {
     },
 }
 
-/// What a run came to. Of one that didn't fail it is said whether it was the last one above the floor.
+/// How a run went. Of one that didn't fail it is said whether it was the last one above the floor.
 #[derive(Drop)]
 pub enum Went {
     /// It ended.
@@ -99,7 +99,7 @@ impl Builder {
     }
 
     /// Makes runs of a part of a covering search, until none of it is left, one fails or the slice is used up, and gives each that ended
-    /// without a failure to the visitor. A run is given up where it comes to a state that one of the two tables has; any other one is
+    /// without a failure to the visitor. A run is given up where it reaches a state that one of the two tables has; any other one is
     /// noted in the second. Both have states of runs of this search alone: of this part or of others. The slice counts the runs that were
     /// begun, the part those that ended. The part then says what is left of it; where a run failed it stays as it was.
     ///
@@ -211,7 +211,7 @@ impl Builder {
         }
     }
 
-    /// One run along the path, of which the visitor is told if it ends, and the step to the next one above this floor. The settings were
+    /// One run along the path, which the visitor is given if it ends, and the step to the next one above this floor. The settings were
     /// tested.
     fn cover_run<B: Body + Same, V: Visitor<B::Data>>(
         &self,

@@ -1,4 +1,4 @@
-//! One run of a search that remembers states, along its path. Where an operation comes to its first branch point past the path's
+//! One run of a search that remembers states, along its path. Where an operation reaches its first branch point past the path's
 //! nodes, and the run explores there, its state is looked up: if it was noted the run is given up, and otherwise it is noted. Where
 //! runs are kept it goes on from the last one whose choices are those of its path.
 ghost use Rattle.std.specs.Prelude.{◌≡◌, ◌≤◌, ◌+◌, [], None, IfOk, OnOk};
@@ -25,7 +25,7 @@ use std::alloc::AllocError;
 /// How a run ended.
 #[derive(Drop)]
 pub enum Ending<D> {
-    /// Main came to this value.
+    /// Main ended with this value.
     Ended(D),
     /// It was given up in a state that was noted, under this number.
     Met(usize),
@@ -102,7 +102,7 @@ where
     )
 }
 
-/// From the branch point at which it stands the run goes on, until it ends, fails or is given up.
+/// From its branch point the run goes on, until it ends, fails or is given up.
 fn from_snapshot<B: Body + Same>(
     execution: &mut Execution<B::Data>,
     bodies: &mut Vec<B>,

@@ -1,4 +1,4 @@
-//! One run of a body whose choices are drawn as it comes to them (own). It goes by turns as one along a path does; nobody hears it.
+//! One run of a body whose choices are drawn as it reaches them (own). It goes by turns as one along a path does; nobody hears it.
 ghost use Rattle.std.specs.Prelude.{◌≡◌, ◌≤◌, ◌+◌, [], None, OnOk, IfOk, false};
 ghost use Rattle.loom_objects.specs.Operation.Plain.{plain, started};
 ghost use Rattle.loom_engine.specs.Drawing.{AlongDrawn, Leads};

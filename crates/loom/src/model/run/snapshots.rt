@@ -1,4 +1,4 @@
-//! A run is kept where it stands at a branch point, so that those after it along paths that begin as its own go on from there (own).
+//! A run is kept at a branch point, so that those after it along paths that begin as its own go on from there (own).
 ghost use Rattle.std.specs.Prelude.{IfOk};
 ghost use Rattle.loom.specs.Model.CoverSnapshots.{MayKeepOne};
 
@@ -11,7 +11,7 @@ use loom_views::rt::MAX_THREADS;
 use loom_views::same::Same;
 use std::alloc::AllocError;
 
-/// Keeps the run where it stands, if any are to be kept and something is left to try there, or at once after it.
+/// Keeps the run as it is, if any are to be kept and something is left to try there, or at once after it.
 pub(crate) fn keep<B: Body>(
     execution: &Execution<B::Data>,
     bodies: &[B],

@@ -9,7 +9,7 @@ use crate::runner::history::event::{Entry, Event};
 use crate::runner::history::told::Told;
 use loom_objects::operation::{Request, ThreadOp};
 
-/// Whether the operation is an entry of its thread's told list: each is but the thread's last one.
+/// Whether the operation is an entry of its thread's list: each is but the thread's last one.
 fn is_listed<D>(op: &Request<D, ()>) -> bool
     ensures { result ≡ is_listed op.now }
 {
@@ -19,7 +19,7 @@ fn is_listed<D>(op: &Request<D, ()>) -> bool
     }
 }
 
-/// Whether the event is an operation of the thread, and an entry of its told list.
+/// Whether the event is an operation of the thread, and an entry of its list.
 fn is_own_event<D>(event: &Event<D>, thread: u8) -> bool
     ensures { result ≡ is_own thread event.now }
 {
@@ -47,14 +47,14 @@ fn is_part<D: Exact>(history: &[Event<D>], thread: u8, entries: &[Entry<D>]) -> 
     left.is_empty()
 }
 
-/// Whether the list is the told list of the thread with this number.
+/// Whether the list is that of the thread with this number.
 fn is_share<D: Exact>(list: &Told<D>, thread: usize, history: &[Event<D>]) -> bool
     ensures { IsTrue result ↔ (list.now ≡ share thread (part thread history.now)) }
 {
     list.thread as usize == thread && is_part(history, list.thread, list.entries.as_slice())
 }
 
-/// Whether there is a told list for each thread, with its part of the history (own).
+/// Whether there is a list for each thread, with its part of the history (own).
 pub fn are_shares<D: Exact>(told: &[Told<D>], history: &History<D>) -> bool
     ensures { IsTrue result ↔ AreShares told.now history.now }
 {

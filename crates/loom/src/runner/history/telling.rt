@@ -10,7 +10,7 @@ use loom_objects::failure::Failure;
 use loom_objects::operation::{Labelled, Reply, Turn, bare_reply, bare_request};
 use std::alloc::{AllocError, Global};
 
-/// The events of a history, each with what its thread was told before. Data are `()` (own).
+/// The events of a history, each with the reply that its thread got before. Data are `()` (own).
 pub fn told_events<D>(alloc: Global, history: &[Event<D>]) -> Result<Vec<Told>, AllocError>
     ensures { IfOk result (λ events. events.items ≡ told_events history.now) }
 {
@@ -43,7 +43,7 @@ pub fn told_values<D: Exact>(
     Ok(values)
 }
 
-/// The thread, which was told this, has handed over the operation.
+/// The thread has handed over the operation after this reply.
 fn told_event<D>(told: Reply<()>, event: &Event<D>) -> Told
     ensures { result ≡ told_event told event.now }
 {
@@ -58,7 +58,7 @@ fn told_event<D>(told: Reply<()>, event: &Event<D>) -> Told
     }
 }
 
-/// What the thread is told whose turn comes.
+/// The reply to the thread whose turn comes.
 fn told_by<D>(alloc: Global, outcome: &Result<Turn<D>, Failure>) -> Result<Reply<()>, AllocError>
     ensures { IfOk result (λ told. told ≡ told_by outcome.now) }
 {

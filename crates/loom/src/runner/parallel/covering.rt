@@ -31,18 +31,25 @@ use std::thread::{self, Threads};
 /// A part that was worked on, with its visitor, what was noted, and what came of it.
 #[derive(Drop)]
 pub struct PartDone<D, B, V> {
+    /// What is left of it.
     pub part: Part,
+    /// It was given the runs that ended.
     pub visitor: V,
+    /// What was noted.
     pub states: States<D, B>,
+    /// How the work went.
     pub worked: Result<PartCovered, CheckError>,
 }
 
-/// What a turn came to: how many runs ended and how many were given up of the parts that were given back, and a run of another one that
+/// How a turn went: how many runs ended and how many were given up of the parts that were given back, and a run of another one that
 /// failed, if one did.
 #[derive(Drop)]
 pub struct CoverTurn {
+    /// How many runs ended.
     pub runs: u64,
+    /// How many were given up.
     pub met: u64,
+    /// The run that failed.
     pub lost: Option<Lost>,
 }
 
@@ -51,7 +58,7 @@ pub struct CoverTurn {
 /// kept of the search. Where they are forgotten more runs are made.
 ///
 /// `Complete` says that each run of the body is covered by the runs that were made before and those that the visitors were given. Whether
-/// each can come to an end isn't known, so `Livelock` isn't told. A failing run isn't counted. `max_permutations` counts the runs that were
+/// each can end isn't known, so `Livelock` isn't reported. A failing run isn't counted. `max_permutations` counts the runs that were
 /// begun.
 ///
 /// Each thread makes runs of a body of its own, which it copies from this one. The states hold bodies and their data, which the threads read.

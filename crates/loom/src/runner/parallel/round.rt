@@ -29,30 +29,40 @@ use std::time::Duration;
 /// A part that is to be worked on, with its visitor.
 #[derive(Drop)]
 pub struct Job<V> {
+    /// The part.
     pub part: Part,
+    /// It is given the runs.
     pub visitor: V,
 }
 
 /// A part that was worked on, with its visitor, and what came of it.
 #[derive(Drop)]
 pub struct Done<V> {
+    /// What is left of it.
     pub part: Part,
+    /// It was given the runs.
     pub visitor: V,
+    /// How the work went.
     pub worked: Result<Worked, CheckError>,
 }
 
 /// A run of a part that failed, under these choices.
 #[derive(Drop)]
 pub struct Lost {
+    /// The part, as it was before that run.
     pub part: Part,
+    /// Why the run failed.
     pub failure: Failure,
+    /// The choices that lead there.
     pub choices: Vec<Choice>,
 }
 
-/// What a turn came to: how many runs were made of the parts that were given back, and a run of another one that failed, if one did.
+/// How a turn went: how many runs were made of the parts that were given back, and a run of another one that failed, if one did.
 #[derive(Drop)]
 pub struct Turn {
+    /// How many runs were made.
     pub runs: u64,
+    /// The run that failed.
     pub lost: Option<Lost>,
 }
 
@@ -305,7 +315,7 @@ fn default_at(part: &Part, place: usize) -> Option<u8> {
     }
 }
 
-/// Where the option stands among those of a node: the default first, then rising threads, rising slots, false before true.
+/// The option's place among those of a node: the default first, then rising threads, rising slots, false before true.
 fn rank(default: Option<u8>, option: Choice) -> u8 {
     match option {
         Choice::Thread(None) => 0,

@@ -16,7 +16,7 @@ pub(crate) struct Work<D, J> {
     pub(crate) job: J,
 }
 
-/// What stands there.
+/// What is there.
 #[derive(Drop)]
 enum Next<D, J> {
     /// The thread is free.
@@ -33,7 +33,7 @@ enum Next<D, J> {
 #[derive(Drop)]
 pub(crate) struct Place<D, J> {
     next: Mutex<Next<D, J>>,
-    // whether the thread has something to do, for its looks. What counts is what stands in `next`.
+    // whether the thread has something to do, for its looks. What counts is what is in `next`.
     is_shown: AtomicBool,
     looks: Looks,
     changed: Condvar,

@@ -34,7 +34,7 @@ pub(crate) fn make_room<D: Exact>(
     Ok(())
 }
 
-/// Records the events of the run of this number. `Changed` where a thread that was told the same as before hands over another operation,
+/// Records the events of the run of this number. `Changed` where a thread hands over another operation than before, after the same replies,
 /// `Memory` where a growth is refused or too many answers are recorded.
 pub(crate) fn record_run<D: Exact>(
     alloc: Global,
@@ -71,7 +71,7 @@ pub(crate) fn record_run<D: Exact>(
     Ok(())
 }
 
-/// Whose turn comes after an event, and what the thread is told then. `Memory` where a copy is refused.
+/// Whose turn comes after an event, and the reply to that thread. `Memory` where a copy is refused.
 fn next_turn<D: Exact>(
     alloc: Global,
     outcome: &Result<Turn<D>, Failure>,
@@ -89,7 +89,7 @@ fn next_turn<D: Exact>(
     }
 }
 
-/// Records that the thread, which is told the reply, hands over the event's operation. Answers the number of an answer that is
+/// Records that the thread, which gets the reply, hands over the event's operation. Answers the number of an answer that is
 /// another one, if it is recorded.
 fn record_event<D: Exact>(
     alloc: Global,
@@ -119,7 +119,7 @@ fn record_event<D: Exact>(
     }
 }
 
-/// What is recorded of a thread at a place that is told a reply.
+/// What is recorded of a reply to a thread at a place.
 #[derive(Clone, Copy)]
 pub(crate) enum Answered {
     /// That it hands over this operation, by the answer of this number.
@@ -128,7 +128,7 @@ pub(crate) enum Answered {
     Other(usize),
 }
 
-/// Records that a thread at the place, which is told the reply, hands over the event's operation, unless another one is recorded.
+/// Records that a thread at the place, which gets the reply, hands over the event's operation, unless another one is recorded.
 fn record_answer<D: Exact>(
     alloc: Global,
     recording: &mut Recording<D>,

@@ -1,4 +1,4 @@
-//! Checks of recorded closures that remember states: once all that their runs come to is recorded, each run is made of that.
+//! Checks of recorded closures that remember states: once all that their runs need is recorded, each run is made of that.
 mod learning;
 mod run;
 
@@ -49,8 +49,8 @@ use std::thread::Threads;
 /// and `max_duration` for both together. The log hears of a run of the closure what it hears in `check_with`, but not what happened in one
 /// that failed.
 ///
-/// A thread that is told the same and hands over another operation than before is `Changed`. `Memory` comes where a growth is refused, and
-/// where a million answers don't do. The errors besides are those of `check_with`.
+/// A thread that hands over another operation than before after the same replies is `Changed`. `Memory` comes where a growth is refused,
+/// and where a million answers don't do. The errors besides are those of `check_with`.
 pub fn cover_recorded<
     D: Exact + Same + 'static,
     R: Threads + Wait + Clone + Send + 'static,

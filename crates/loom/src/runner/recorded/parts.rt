@@ -199,7 +199,7 @@ fn work_by<
     }
 }
 
-/// The run along the path ended so. If it came to a value the visitor is given it, and the path steps to the next one above this floor.
+/// The run along the path ended so. If it ended with a value the visitor is given it, and the path steps to the next one above this floor.
 pub(super) fn end_above<D: Exact, V: Visitor<D>>(
     alloc: Global,
     ending: Ending<D>,

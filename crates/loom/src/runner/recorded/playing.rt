@@ -41,7 +41,7 @@ impl<D: Exact> Room<D> {
     }
 }
 
-/// One run along the path, from its start, by what is recorded. None where a thread comes to an answer that isn't recorded: then the
+/// One run along the path, from its start, by what is recorded. None where a thread needs an answer that isn't recorded: then the
 /// path is left on the way. A failure has the place of its operation, if places are kept.
 pub(crate) fn play<D: Exact>(
     room: &mut Room<D>,
@@ -117,7 +117,7 @@ fn take_turns<D: Exact>(
     }
 }
 
-/// What the thread hands over that is told the reply, if that is recorded. Then it is at the next place.
+/// What the thread hands over that gets the reply, if that is recorded. Then it is at the next place.
 pub(crate) fn next_op<D: Exact>(
     recording: &Recording<D>,
     places: &mut Vec<usize>,

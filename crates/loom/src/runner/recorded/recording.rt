@@ -1,4 +1,4 @@
-//! A recording: what closures were seen to answer, each to a reply behind all that its thread was told before.
+//! A recording: what closures were seen to answer, each to a reply behind all earlier replies to its thread.
 ghost use Rattle.std.specs.Prelude.{◌≡◌, ◌<◌, [], IfOk, IfSome, None, Some, length, slice_get, true, false};
 ghost use Rattle.loom_objects.specs.Operation.Plain.{started_request};
 ghost use Rattle.loom.specs.Runner.Recording.{IsFound, IsLonger};
@@ -15,12 +15,12 @@ const MAX_ANSWERS: usize = 1_000_000;
 /// Where so many are, no run more is recorded beside them.
 const MANY_ANSWERS: usize = MAX_ANSWERS / 2;
 
-/// What a thread handed over when it was told a reply at a place.
+/// What a thread handed over after a reply at a place.
 #[derive(Drop)]
 pub(crate) struct Answer<D> {
     /// Where the thread was: what it was told before.
     pub(crate) from: usize,
-    /// What it was told there.
+    /// The reply there.
     pub(crate) reply: Reply<D>,
     /// What it handed over then.
     pub(crate) op: Request<D, ()>,

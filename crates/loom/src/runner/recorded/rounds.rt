@@ -40,7 +40,7 @@ use std::alloc::{AllocError, Global};
 use std::sync::Wait;
 use std::thread::Threads;
 
-/// Makes one run after another, by settings in range, from the path on that the store holds: of the closure where a thread comes to an
+/// Makes one run after another, by settings in range, from the path on that the store holds: of the closure where a thread needs an
 /// answer that isn't recorded, and of what is recorded elsewhere. The watcher is shown those of the closure.
 pub(crate) fn make_recorded_rounds<
     D: Exact + 'static,
@@ -219,8 +219,8 @@ impl<D: Exact + 'static> Recorder<D> {
         }
     }
 
-    /// One run along the path: by what is recorded, and where an answer isn't by a run of the closure, which is recorded. Answers what the
-    /// run came to.
+    /// One run along the path: by what is recorded, and where an answer isn't by a run of the closure, which is recorded. Answers how the
+    /// run ended.
     pub(crate) fn make_run<
         R: Threads + Wait + Clone + Send + 'static,
         F: FnMut(&mut Handle<D, R>) -> Result<D, Stop>,
@@ -288,7 +288,7 @@ impl<D: Exact + 'static> Recorder<D> {
     }
 }
 
-/// The run along the path ended so. If it came to a value the visitor is given it, and the path steps to the next one.
+/// The run along the path ended so. If it ended with a value the visitor is given it, and the path steps to the next one.
 fn end_round<D: Exact, V: Visitor<D>>(
     alloc: Global,
     ending: Ending<D>,

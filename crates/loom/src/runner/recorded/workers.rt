@@ -36,7 +36,7 @@ use std::thread::Threads;
 /// `check_parallel`, which says how parts are worked on, what the visitors are given, and what the log hears).
 ///
 /// What the threads hand over is recorded, and the workers make runs of that alone. Before a part is handed out its next run is made: where
-/// that comes to an answer that isn't recorded, the closure is called, by the thread that calls this. A worker whose run lacks an answer
+/// that needs an answer that isn't recorded, the closure is called, by the thread that calls this. A worker whose run lacks an answer
 /// ends its turn, and with it that of the others. So the closure needn't be `Sync`, but its data have to.
 ///
 /// In `Changed` the number of a run is by one more than that of the runs that were counted before the turn. The errors besides are those

@@ -1,4 +1,4 @@
-//! What draws the choices of a run of a closure as it comes to them (own).
+//! What draws the choices of a run of a closure as it reaches them (own).
 use crate::model::drawer::Drawer;
 use crate::model::follower::Follower;
 use loom_engine::rt::path::drawing::Chooser;

@@ -1,10 +1,10 @@
 //! The stops that threads were answered again, since they went on after the first one.
 use loom_views::rt::MAX_THREADS;
 
-/// So many are told.
+/// After so many a thread is reported.
 const MANY: u16 = 1000;
 
-/// How many stops each thread was answered again, and who is to be told of.
+/// How many stops each thread was answered again, and which thread is to be reported.
 #[derive(Clone, Copy)]
 pub(crate) struct Ignored {
     counts: [u16; MAX_THREADS],
@@ -33,7 +33,7 @@ impl Ignored {
         }
     }
 
-    /// The thread that is to be told of, and then no more.
+    /// The thread that is to be reported, and then no more.
     pub(crate) fn tell(&mut self) -> Option<u8> {
         self.untold.take()
     }

@@ -1,4 +1,4 @@
-//! Laws of runs one after another, of which only the histories are known. The definitions stand in `specs/Runner/Chains.antt`,
+//! Laws of runs one after another, of which only the histories are known. The definitions are in `specs/Runner/Chains.antt`,
 //! what is known of such runs in `specs/Runner/Laws.antt`.
 ghost use Rattle.loom.specs.Runner.Laws.{AlternativesLaw, FailureLaw, OnceLaw};
 

@@ -16,7 +16,7 @@ use std::marker::Model;
 pub(crate) struct Place<D> {
     pub(crate) execution: Execution<D>,
     pub(crate) path: Path,
-    // draws the choices, where they are drawn as the run comes to them
+    // draws the choices, where they are drawn as the run reaches them
     pub(crate) drawing: Option<Drawing>,
 }
 

@@ -5,7 +5,7 @@ use crate::runner::turns::Turns;
 use log::{Log, info, warn};
 use std::sync::Wait;
 
-/// Of a thread that has held the turn for so many looks, a second apart, is told; and once in so many looks which run is made.
+/// A thread that has held the turn for so many looks, a second apart, is logged; and once in so many looks, which run is made.
 const MANY: u32 = 10;
 
 /// What was seen of a run.
@@ -15,7 +15,7 @@ pub(super) struct Look {
     events: usize,
     // for how many looks no event has come
     still: u32,
-    // for how many looks it wasn't told which run is made
+    // for how many looks it wasn't logged which run is made
     untold: u32,
 }
 

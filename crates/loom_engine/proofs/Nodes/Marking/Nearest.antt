@@ -117,7 +117,7 @@ module _ (left : ℕ) (passes : List (Made × Choice)) (k : ℕ) (again : place_
   found_on None h e = no_more (ap from_exploring (down_none 0 left passes [] h)) e
   found_on (Some pass) h e = schedule_or pass h (is_thread pass.0.default) refl e
 
--- the first that explores stands there
+-- the first that explores is there
 found_at : (left : ℕ) (passes : List (Made × Choice)) (k : ℕ) → place_of (from_exploring (schedules_down 0 left passes [])) ≡ Some k → IsFirst passes k (from_exploring (schedules_down 0 left passes []))
 found_at zero passes k e = absurd (cc e)
 found_at (suc left) passes k e = found_on left passes k (λ g. found_at left passes k g) (slice_get passes left) refl e

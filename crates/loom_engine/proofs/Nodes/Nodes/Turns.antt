@@ -11,7 +11,7 @@ use Rattle.loom_engine.specs.Walk.Path.{Status as State, Closed, Skip as Skipped
 use Rattle.loom_engine.specs.Trees.Drive.{value_status, made_at, new_node}
 use Rattle.loom_engine.proofs.Nodes.Nodes.Picks.{pick_yes, pick_no}
 
--- each option stands once in the list
+-- each option is in the list once
 unfoldable pub Distinct : List Choice → Type 0
 Distinct [] = Unit {0}
 Distinct (x ∷ options) = (Among x options → ⊥) × Distinct options

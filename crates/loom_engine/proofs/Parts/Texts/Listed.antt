@@ -1,4 +1,4 @@
--- Lists of parts as values: what is read is a true list, a refused value is none's, and what is read back stands where it stood.
+-- Lists of parts as values: what is read is a true list, a refused value is none's, and what is read back is where it was.
 use Rattle.std.proofs.Common.{◌≡◌, ℕ, Bool, codes, List, [], ◌∷◌, map, Option, Some, None, Vec, ◌⊎◌, inl, inr, refl, sym, ap, ap₂, ◌∙◌, subst, arith}
 use Rattle.std.specs.declared.alloc.Global.{Global}
 use Rattle.serde_json.specs.Data.{Data}

@@ -162,7 +162,7 @@ module _ (n : Schedule) (explores : n.exploring ≡ true) (t : ℕ) where
   abbrev ts : List Status
   ts = n.statuses
 
-  -- what the schedule comes to with other statuses, if each option's state is that with the marks
+  -- what the schedule becomes with other statuses, if each option's state is that with the marks
   added_by : (us : List Status) → map ability_of us ≡ map ability_of ts → active_thread us ≡ active_thread ts
       → ((j : ℕ) → state_at us j ≡ alone ts t j (is_unable (slice_get (map ability_of ts) t))) → seen_schedule (record n { statuses = us }) ≡ mark_added t (seen_schedule n)
   added_by us offers active state =
@@ -222,7 +222,7 @@ added_at_rest t n w = mark_at_rest (marker (adds_there (Some (n.made, n.present)
     explores true b h = refl
     explores false b h = absurd (cc h)
 
--- so is the schedule with other statuses, if adding comes to these where it explores
+-- so is the schedule with other statuses, if adding gives these where it explores
 pub added_rests : (t : ℕ) (n : Schedule) (us : List Status) → seen_threads n.first true us ≡ mark_added t (seen_threads n.first true n.statuses) → IsWellSchedule n
     → IsAtRest (seen_threads n.first true us)
 added_rests t n us e w = subst IsAtRest (sym e) (added_at_rest t (seen_threads n.first true n.statuses) w)

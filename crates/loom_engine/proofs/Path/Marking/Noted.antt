@@ -128,7 +128,7 @@ module _ (nodes : List Node) (p k thread : ℕ) (bound : Option ℕ) (old : Sche
 pub switch_here : (nodes : List Node) (p k : ℕ) → k ≤ p → last_switch k (passes_to k nodes) ≡ last_switch k (map pass_of (take p (stored nodes)))
 switch_here nodes p k h = ap (λ l. first_of (switching l)) (down_front 0 k p (stored nodes) [] h)
 
--- a schedule was passed there, so it stands there
+-- a schedule was passed there, so it is there
 pub schedule_within : (p k : ℕ) (nodes : List Node) → IsScheduleAt (map pass_of (take p (stored nodes))) k → (k < p) × (k < length nodes)
 schedule_within zero k nodes h = absurd h
 schedule_within (suc p) k [] h = absurd h

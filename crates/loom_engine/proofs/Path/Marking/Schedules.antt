@@ -31,7 +31,7 @@ module _ (old : Route) (places : List (Option ℕ)) where
   abbrev with_pairs : List (ℕ × ℕ) → List Stored → List Stored
   with_pairs pairs u = mark_with (marks_for old.search.bound passes pairs) 0 u
 
-  -- the marks of the threads before number t were made: with those of the others they come to the marks of all
+  -- the marks of the threads before number t were made: with those of the others they are the marks of all
   pub record Left (t : ℕ) (now : Route) : Type 0 where
     pub same : now ≡ record old { nodes = now.nodes }
     pub passed : passes_of (trail now) ≡ passes

@@ -74,7 +74,7 @@ got_there (x ∷ nodes) (suc k) n h = got_there nodes k n h
 pub choice_stored : (path : Route) (n : Node) → path.position < length path.nodes → n ≡ get_or path.nodes path.position n → choice_here path ≡ Some (seen n).present
 choice_stored path n h e = ap (option_map (λ (s : Stored). s.present)) (stored_at path.nodes path.position n h e)
 
--- no choice stands past the end
+-- no choice is past the end
 pub no_choice : (path : Route) → length path.nodes ≤ path.position → choice_here path ≡ None
 no_choice path h = ap (option_map (λ (s : Stored). s.present)) (none_there path.nodes path.position h)
 
@@ -212,7 +212,7 @@ chosen_next (n ∷ nodes) (suc i) x h = ap (λ (l : List Choice). (seen n).prese
 load_no_thread : (n : Node) (slot : ℕ) → (seen n).present ≡ Load slot → is_thread (seen n).made.default ≡ false
 load_no_thread n slot h = is_no_thread n (λ s e. let c : (seen (node.Schedule s)).present ≡ Load slot = ap (λ (m : Node). (seen m).present) (sym e) ∙ h in cc c)
 
--- where the choice is a slot no schedule stands
+-- where the choice is a slot, there is no schedule
 pub value_chosen : (nodes : List Node) (i slot : ℕ) → option_map (λ (n : Stored). n.present) (slice_get (stored nodes) i) ≡ Some (Load slot) → IsValueAt nodes i
 value_chosen [] i slot h = absurd (cc h)
 value_chosen (n ∷ nodes) zero slot h = (let e : (seen n).present ≡ Load slot = cc h in load_no_thread n slot e)

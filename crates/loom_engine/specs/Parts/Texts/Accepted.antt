@@ -121,7 +121,7 @@ IsRefusedPart s explores d (Memory e) = Unit {0}
 abbrev pub IsRefusedThere : Settings → Bool → List Data → PartsError → Type 0
 IsRefusedThere s explores parts e = (item : Data) × IsAmong item parts × IsRefusedItem s explores item e
 
--- why a value isn't the settings of this search, which stand there as a path without nodes
+-- why a value isn't the settings of this search, which are there as a path without nodes
 abbrev pub IsRefusedSearch : Settings → Bool → Data → PartsError → Type 0
 IsRefusedSearch s explores d NotJson = ⊥
 IsRefusedSearch s explores d WrongFormat = ⊥
@@ -190,6 +190,6 @@ IsRefusedText P text (Memory e) = Unit {0}
 
 -- ---- what is read back
 
--- the list stands where the other one does, in any search
+-- the list is where the other one is, in any search
 abbrev pub IsAtToo : Parts → Parts → Type 0
 IsAtToo p read = (m : Machine) (made : List (List Choice)) → IsAt m made p → IsAt m made read

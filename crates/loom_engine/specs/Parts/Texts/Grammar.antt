@@ -9,7 +9,7 @@ use Rattle.loom_engine.specs.Checkpoint.Grammar.{whole, list_data, path_data}
 use Rattle.loom_engine.specs.declared.rt.parts.Part.{Part}
 use Rattle.loom_engine.specs.declared.rt.parts.Parts.{Parts}
 
--- a thread is its number, none is null, a slot stands in brackets, and an answer is true or false
+-- a thread is its number, none is null, a slot is in brackets, and an answer is true or false
 abbrev pub choice_data : Choice → Data
 choice_data (Thread None) = null
 choice_data (Thread (Some thread)) = whole thread
@@ -44,6 +44,6 @@ unfoldable pub list_shape : List ℕ → List Data → ℕ → Data → List Dat
 list_shape format parts runs search trunk version =
     object (member (codes "format") (string format) (member (codes "parts") (list_data parts) (member (codes "runs") (whole runs) (member (codes "search") search (member (codes "trunk") (list_data trunk) (member (codes "version") (whole version) no_members))))))
 
--- the settings of the search stand there as a path without nodes
+-- the settings of the search are there as a path without nodes
 abbrev pub parts_data : Parts → Data
 parts_data p = list_shape (codes "parts") (map item_data p.list.items) p.runs (path_data (settings p.search) p.search.explores []) (map key_data p.trunk.items) 2

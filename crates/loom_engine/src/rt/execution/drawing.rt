@@ -1,4 +1,4 @@
-//! The execution of a run whose choices are drawn as it comes to them (own). Each function does what the one of that name does along
+//! The execution of a run whose choices are drawn as it meets them (own). Each function does what the one of that name does along
 //! a path, but that it makes no marks.
 ghost use Rattle.std.specs.Prelude.{◌≡◌, ◌+◌, OnOk};
 ghost use Rattle.loom_engine.specs.Drawing.{AlongDrawn, Leads, LeadsOn, SubmitsDrawn};

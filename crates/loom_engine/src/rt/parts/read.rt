@@ -55,7 +55,7 @@ fn read_choice(value: &Value) -> Option<Choice>
     }
 }
 
-/// The slot whose number stands alone in brackets.
+/// The slot whose number is alone in brackets.
 fn read_slot(items: &Vec<Value>) -> Option<Choice>
     ensures { result ≡ slot_in (Some (map view items.now.items)) }
 {

@@ -159,7 +159,7 @@ pub fn reread_part(alloc: Global, part: &Part) -> Result<Part, PartsError>
     }
 }
 
-/// A list of true parts that was written and is read back stands where it stood, in any search (own).
+/// A list of true parts that was written and is read back is where it was, in any search (own).
 pub fn reread(alloc: Global, parts: &Parts) -> Result<Parts, PartsError>
     requires { AreTrue (settings parts.now.search) parts.now.search.explores parts.now }
     ensures same { IfOk result (λ read. IsAtToo parts.now read × (read.runs ≡ parts.now.runs)) }

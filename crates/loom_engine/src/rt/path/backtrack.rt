@@ -15,7 +15,7 @@ use loom_views::rt::MAX_THREADS;
 impl Path {
     /// Makes the marks of a schedule: each thread that isn't ordered after the access that was made at its place is to be tried
     /// there, or at the nearest schedule before that explores. Under a bound on preemptions also where the run last went over
-    /// to another thread before that. Nothing in a search that isn't reduced. A mark that stands already changes nothing.
+    /// to another thread before that. Nothing in a search that isn't reduced. A mark that is there already changes nothing.
     #[inline(always)]
     pub fn backtrack(&mut self, places: &[Option<usize>; MAX_THREADS])
         ensures { Backtracks self.old places.now self.new }

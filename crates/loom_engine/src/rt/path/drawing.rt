@@ -1,4 +1,4 @@
-//! Choices that are drawn as a run comes to them (own).
+//! Choices that are drawn as a run meets them (own).
 ghost use Rattle.std.specs.Prelude.{◌≡◌, ◌<◌, ℕ, List, [], Option, Some, IfOk, IfSome, slice_get, length, true};
 ghost use Rattle.std.specs.List.{Contains};
 ghost use Rattle.loom_objects.specs.Exploring.{is_on};

@@ -126,7 +126,7 @@ impl NodeList {
         word::meets(self.words[place], exploring, offers)
     }
 
-    /// Another node stands at the place (own).
+    /// Puts another node at the place (own).
     #[inline(always)]
     pub fn set(&mut self, place: usize, node: &Node)
         requires within { place < length self.old }

@@ -70,7 +70,7 @@ pub struct Spurious {
     pub answer: bool,
 }
 
-/// The places that a schedule notes: of its fields those that stand beside its word (own).
+/// The places that a schedule notes: of its fields those beside its word (own).
 #[derive(Clone, Copy)]
 pub struct Places {
     /// The place of the last schedule before it that explores and chose another thread than the one before that one; or else of

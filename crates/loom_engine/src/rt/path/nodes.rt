@@ -37,7 +37,7 @@ impl Nodes {
         Ok(())
     }
 
-    /// The stored schedule that the run passes next. `NotDeterministic` where another node stands there, or another schedule
+    /// The stored schedule that the run passes next. `NotDeterministic` where another node is there, or another schedule
     /// than these offers make.
     #[inline(always)]
     pub fn stored_schedule(&self, exploring: bool, offers: &Offers) -> Result<Schedule, Stop>

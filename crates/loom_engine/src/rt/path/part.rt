@@ -166,7 +166,7 @@ fn is_schedule(node: &Node) -> bool
     }
 }
 
-/// Adds the options that are to be tried at the node, which stands at this place (own).
+/// Adds the options that are to be tried at the node, which is at this place (own).
 pub(crate) fn add_openings(
     alloc: Global,
     list: &mut Vec<Opening>,

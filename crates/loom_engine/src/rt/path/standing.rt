@@ -49,7 +49,7 @@ impl Path {
         self.nodes.list.len()
     }
 
-    /// Whether a node stands where the run does, at which something is seen to be left to try (own).
+    /// Whether a node is where the run is, at which something is seen to be left to try (own).
     pub fn is_left_here(&self) -> bool {
         self.nodes.position < self.nodes.list.len() && !self.nodes.list.is_done(self.nodes.position)
     }

@@ -298,7 +298,7 @@ pub fn is_done(word: u64) -> bool
     }
 }
 
-/// What was chosen at the node that a word is, whatever stands beside it (own).
+/// What was chosen at the node that a word is, whatever is beside it (own).
 #[inline(always)]
 pub fn choice(word: u64) -> Choice
     ensures { (places : Places) → result ≡ (seen (node_in word places)).present }
@@ -434,7 +434,7 @@ fn of_spurious(spurious: &Spurious) -> u64
     set_answer(word, spurious.answer)
 }
 
-/// The word with these statuses, in which nothing stands there or above.
+/// The word with these statuses, in which nothing is there or above.
 #[inline(always)]
 fn set_statuses(word: u64, statuses: &[Status; MAX_THREADS]) -> u64
     requires { word < 2 ^ 6 }
@@ -447,7 +447,7 @@ fn set_statuses(word: u64, statuses: &[Status; MAX_THREADS]) -> u64
     set_status(word, 4, statuses[4])
 }
 
-/// The word with these slots, in which nothing stands there or above.
+/// The word with these slots, in which nothing is there or above.
 #[inline(always)]
 fn set_readable(word: u64, readable: &[bool; MAX_ATOMIC_HISTORY]) -> u64
     requires { word < 2 ^ 3 }

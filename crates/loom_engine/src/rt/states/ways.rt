@@ -7,11 +7,13 @@ use loom_views::sequence::Sequence;
 use std::alloc::{AllocError, Global};
 use std::marker::Model;
 
-/// A way that a run went from a state, to one that it came to later or to its end. States go by the numbers under which they were noted,
+/// A way that a run went from a state, to a later one or to its end. States go by the numbers under which they were noted,
 /// from 0 (own).
 #[derive(Clone, Copy, Debug, PartialEq, Eq)]
 pub struct Way {
+    /// The state where it begins.
     pub from: usize,
+    /// The state where it ends, or None for a run's end.
     pub to: Option<usize>,
 }
 
@@ -41,8 +43,8 @@ impl Ways {
         }
     }
 
-    /// Adds the ways of a run that made these choices and came to the state of this number, or to its end: from each state that it passed
-    /// to the next one, and from the last one to there. The choices are those by which a run came to each state; this run noted those from
+    /// Adds the ways of a run that made these choices and reached the state of this number, or its end: from each state that it passed
+    /// to the next one, and from the last one to there. The choices are those that led a run to each state; this run noted those from
     /// `first` on. An error where memory is refused (own).
     pub fn add_run(
         &mut self,

@@ -142,7 +142,7 @@ two_rmw =
     Do 0 (op.Atomic (atomic.Store 0 1 Relaxed)) ∷ Do 0 (op.Atomic (atomic.Update 0 (Add 1) Relaxed)) ∷
     Do 0 (op.Thread (threads.Finish (Held 0))) ∷ exit ∷ end ∷ []
 
--- Three threads whose stores and loads come to two stores with equal places in loom's modification order.
+-- Three threads whose stores and loads lead to two stores with equal places in loom's modification order.
 abbrev pub orders_equal : List Written
 orders_equal =
     Do 0 (op.Atomic (atomic.New numbers.U64 0)) ∷ SpawnAt 1 (codes "first") ∷

@@ -19,7 +19,7 @@ use loom_views::same::Same;
 use std::alloc::{AllocError, Global};
 use std::io::{self, Write};
 
-/// What it came to that a part was worked on.
+/// The outcome of work on a part.
 #[derive(Drop)]
 pub(crate) enum Made {
     /// None of its runs failed. So many ended, and so many were given up.
@@ -126,7 +126,7 @@ impl Shared {
         }
     }
 
-    /// Makes runs of a part of the search, by this builder, and says what that came to.
+    /// Makes runs of a part of the search, by this builder, and gives the outcome.
     pub(crate) fn work_on<R: Host, C: Clock>(
         &mut self,
         rt: &R,
@@ -176,7 +176,7 @@ impl Shared {
     }
 }
 
-// What a part of a plain check came to: no run of it was given up.
+// The outcome of a part of a plain check: no run of it was given up.
 fn made_plainly(worked: Worked) -> Made {
     match worked {
         Worked::Made { runs } => Made::Made { runs, met: 0 },

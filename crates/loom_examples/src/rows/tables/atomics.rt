@@ -244,7 +244,7 @@ pub const TWO_RMW: &[Step] = &[
     END,
 ];
 
-/// Three threads whose stores and loads come to two stores with equal places in loom's modification order.
+/// Three threads whose stores and loads lead to two stores with equal places in loom's modification order.
 pub const ORDERS_EQUAL: &[Step] = &[
     Step::Do(0, Request::Atomic(AtomicOp::New(Numbers::U64, 0))),
     Step::SpawnAt(1, "first"),

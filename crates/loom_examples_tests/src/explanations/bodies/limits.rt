@@ -53,7 +53,7 @@ const TWO_BY_TWO: Exchange = Exchange {
     failure: Relaxed,
 };
 
-/// Three threads whose stores and loads come to two stores with equal places in loom's modification order.
+/// Three threads whose stores and loads lead to two stores with equal places in loom's modification order.
 pub const ORDERS_EQUAL: &[Step] = &[
     Step::Labelled(0, Request::Atomic(AtomicOp::New(Numbers::U64, 0)), HITS),
     Step::SpawnAt(1, "first"),

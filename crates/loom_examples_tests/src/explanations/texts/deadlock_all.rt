@@ -1,4 +1,4 @@
-//! What is told of the body `deadlock_all`.
+//! The explanation of the body `deadlock_all`.
 pub const TEXT: &str = r#"failed: deadlock, after event 15
   thread 0 (main): waits for a message of channel #1 since event 11
   thread 1: waits to write RwLock #0 ("table") since event 12; thread 0 holds it since event 5

@@ -1,4 +1,4 @@
-//! What is told of the body `deadlock_asleep`.
+//! The explanation of the body `deadlock_asleep`.
 pub const TEXT: &str = r#"failed: deadlock, after event 17
   thread 0 (main): has ended
   thread 1 ("first"): has ended

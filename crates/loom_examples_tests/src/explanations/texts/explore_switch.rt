@@ -1,4 +1,4 @@
-//! What is told of the body `explore_switch`.
+//! The explanation of the body `explore_switch`.
 pub const TEXT: &str = r#"failed: idle switch, at event 2
   thread 0 switches exploring to what it is already, since event 1
 replay:

@@ -1,4 +1,4 @@
-//! What is told of the body `leak_arc`.
+//! The explanation of the body `leak_arc`.
 pub const TEXT: &str = r#"failed: leaked reference, after event 6
   Arc #0 ("shared"), made by thread 0 at event 1, has 1 reference left
   each `Arc::new` and each `clone` wants a `drop`, before main's end

@@ -1,4 +1,4 @@
-//! What is told of the body `leak_waker`.
+//! The explanation of the body `leak_waker`.
 pub const TEXT: &str = r#"failed: leaked reference, after event 6
   future #1, made by thread 0 at event 1, has 1 waker left
   each waker wants a `drop` or a `wake`, and the future its `finish`

@@ -1,4 +1,4 @@
-//! What is told of the body `misuse_end`.
+//! The explanation of the body `misuse_end`.
 pub const TEXT: &str = r#"failed: misuse, at event 1
   thread 0's end(): `finish`, `exit` and `end` come once each, in this order
 replay:

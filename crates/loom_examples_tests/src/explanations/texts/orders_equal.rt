@@ -1,4 +1,4 @@
-//! What is told of the body `orders_equal`.
+//! The explanation of the body `orders_equal`.
 pub const TEXT: &str = r#"failed: choices that don't fit, after event 11
   the run met 7 of the choices that were given: choice 8 is none of those that stand there
   the choices are another body's, or those of another form of this one

@@ -1,4 +1,4 @@
-//! What is told of the body `race_three`.
+//! The explanation of the body `race_three`.
 pub const TEXT: &str = r#"failed: race, at event 9 (spin.rs:87)
   thread 2 begins to write cell #0 ("count") and doesn't know of one of these at least:
     thread 0's write of cell #0 ("count") (event 2)

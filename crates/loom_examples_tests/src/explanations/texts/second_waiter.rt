@@ -1,4 +1,4 @@
-//! What is told of the body `second_waiter`.
+//! The explanation of the body `second_waiter`.
 pub const TEXT: &str = r#"failed: second waiter, at event 4
   thread 1 is to wait on notifier #0 ("state"), and one thread may at a time
   thread 0 waits on it since event 3

@@ -1,4 +1,4 @@
-//! What is told of the body `too_many_steps`.
+//! The explanation of the body `too_many_steps`.
 pub const TEXT: &str = r#"failed: too many operations, at event 31
   the threads of a run may hand over 30 operations (`max_steps`): this is one more
   a loop that waits wants a `yield_now` in each turn; else raise `max_steps`

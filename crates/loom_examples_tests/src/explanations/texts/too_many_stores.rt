@@ -1,4 +1,4 @@
-//! What is told of the body `too_many_stores`, up to its 65,535 choices.
+//! The explanation of the body `too_many_stores`, up to its 65,535 choices.
 pub const TEXT: &str = r#"failed: too many stores, at event 145539
   thread 1 is at atomic #0 ("hits")
   an atomic may have 65535 stores, the first value counted: this is one more

@@ -1,4 +1,4 @@
-//! What is told of the body `unreachable`.
+//! The explanation of the body `unreachable`.
 pub const TEXT: &str = r#"failed: unreachable code, at event 3 (states.rs:12)
   thread 0 came to code that is never to be reached ("the state is 0 or 1", states.rs:12)
   it came there by the reply to its operation at event 2

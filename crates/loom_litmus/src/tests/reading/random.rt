@@ -104,7 +104,7 @@ fn leaf(numbers: &mut Numbers) -> Expression {
     }
 }
 
-// An expression of which no part stands deeper than so.
+// An expression of which no part is deeper than so.
 #[cycle(expressions)]
 fn expression(alloc: Global, numbers: &mut Numbers, depth: u8) -> Result<Expression, AllocError> {
     if depth == 0 {
@@ -186,7 +186,7 @@ fn simple(alloc: Global, numbers: &mut Numbers) -> Result<Action, AllocError> {
     })
 }
 
-// Some statements, of which none stands deeper than so.
+// Some statements, of which none is deeper than so.
 fn statements(
     alloc: Global,
     numbers: &mut Numbers,

@@ -159,7 +159,7 @@ impl<D: Drop> Scene<D> {
         }
     }
 
-    /// It reads the cell of this number. `Race` with a write that hasn't come to the thread; then nothing changes.
+    /// It reads the cell of this number. `Race` with a write that the thread doesn't know of; then nothing changes.
     pub fn read_cell(&mut self, number: usize) -> Result<(), FailureKind>
         ensures shown { (p : Points) → ShowsViews p self.old.views → MovesAs (table.points_after_read p self.old.active number) result self.new.views }
         ensures rest { self.new ≡ record self.old { views = self.new.views } }
@@ -168,7 +168,7 @@ impl<D: Drop> Scene<D> {
         self.views.read(self.active as usize, number)
     }
 
-    /// It writes the cell of this number. `Race` with a write or a read that hasn't come to the thread; then nothing changes.
+    /// It writes the cell of this number. `Race` with a write or a read that the thread doesn't know of; then nothing changes.
     pub fn write_cell(&mut self, number: usize) -> Result<(), FailureKind>
         ensures shown { (p : Points) → ShowsViews p self.old.views → MovesAs (table.points_after_write p self.old.active number) result self.new.views }
         ensures rest { self.new ≡ record self.old { views = self.new.views } }
@@ -190,7 +190,7 @@ impl<D: Drop> Scene<D> {
     }
 
     /// It loads from the store in a slot of the atomic of this number, and answers its value. `OpenAccess` while a mutation is
-    /// open, `Race` with one that hasn't come to the thread; then nothing changes.
+    /// open, `Race` with one that the thread doesn't know of; then nothing changes.
     pub fn load(&mut self, number: usize, slot: usize, order: Ordering) -> Result<u64, FailureKind>
         ensures shown { (p : Points) → ShowsViews p self.old.views → IsSlotKept (slice_get p.places number) slot → LoadsAs (table.points_after_load p self.old.active number slot order) result self.new.views }
         ensures no_slot { 7 ≤ slot → result ≡ Err Misuse }
@@ -201,7 +201,7 @@ impl<D: Drop> Scene<D> {
     }
 
     /// It stores to the atomic of this number. `OpenAccess` while a mutation is open, `Race` with one or with a load beside
-    /// atomics that hasn't come to the thread, `TooManyStores` at the 65,536th; then nothing changes.
+    /// atomics that the thread doesn't know of, `TooManyStores` at the 65,536th; then nothing changes.
     pub fn store(&mut self, number: usize, value: u64, order: Ordering) -> Result<(), FailureKind>
         ensures shown { (p : Points) → ShowsViews p self.old.views → StoresAs (table.points_after_store p self.old.active number value order) result self.new.views }
         ensures rest { self.new ≡ record self.old { views = self.new.views } }
@@ -248,7 +248,7 @@ impl<D: Drop> Scene<D> {
     }
 
     /// It loads the newest value of the atomic of this number without synchronizing. `OpenAccess` while a mutation is open,
-    /// `Race` with a store or a mutation that hasn't come to the thread; then nothing changes.
+    /// `Race` with a store or a mutation that the thread doesn't know of; then nothing changes.
     pub fn unsync_load(&mut self, number: usize) -> Result<u64, FailureKind>
         ensures shown { (p : Points) → ShowsViews p self.old.views → LoadsAs (table.points_after_unsync_load p self.old.active number) result self.new.views }
         ensures rest { self.new ≡ record self.old { views = self.new.views } }
@@ -258,7 +258,7 @@ impl<D: Drop> Scene<D> {
     }
 
     /// It opens a mutation of the atomic of this number, and is answered the newest value. `OpenAccess` while another is open,
-    /// `Race` with any access that hasn't come to the thread; then nothing changes.
+    /// `Race` with any access that the thread doesn't know of; then nothing changes.
     pub fn with_mut(&mut self, number: usize) -> Result<u64, FailureKind>
         ensures shown { (p : Points) → ShowsViews p self.old.views → LoadsAs (table.points_after_with_mut p self.old.active number) result self.new.views }
         ensures rest { self.new ≡ record self.old { views = self.new.views } }
@@ -267,7 +267,7 @@ impl<D: Drop> Scene<D> {
         self.views.with_mut(self.active as usize, number)
     }
 
-    /// It closes the mutation, with the value that it leaves. `Race` with any access that hasn't come to the thread; then
+    /// It closes the mutation, with the value that it leaves. `Race` with any access that the thread doesn't know of; then
     /// nothing changes.
     pub fn with_mut_end(&mut self, number: usize, value: u64) -> Result<(), FailureKind>
         ensures shown { (p : Points) → ShowsViews p self.old.views → StoresAs (table.points_after_with_mut_end p self.old.active number value) result self.new.views }

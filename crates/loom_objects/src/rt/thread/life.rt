@@ -90,7 +90,7 @@ fn child<D>(alloc: Global, name: Option<Name>, notifier: usize) -> Thread<D>
     }
 }
 
-/// The active thread is to wait for a thread's end, and comes to a branch point, blocked until it is notified.
+/// The active thread is to wait for a thread's end, and reaches a branch point, blocked until it is notified.
 fn join_begins<D: Drop>(
     scene: &mut Scene<D>,
     thread: u8,
@@ -130,7 +130,8 @@ pub fn join<D: Drop>(
     Ok(Reply::Data(value))
 }
 
-/// Main has its result at once, and gives the values back that were made once. Another thread comes to a branch point, at which it is to notify.
+/// Main has its result at once, and gives the values back that were made once. Another thread reaches a branch point, at which
+/// it is to notify.
 fn finish<D: Drop>(scene: &mut Scene<D>, value: D) -> Result<Entry<D>, FailureKind>
     ensures { Does (rules.finish value) scene.old result scene.new }
 {
@@ -161,7 +162,7 @@ pub fn child_finish<D: Drop>(
     Ok(Reply::Done)
 }
 
-/// The thread has ended before the branch point that it comes to.
+/// The thread has ended before its branch point.
 fn end<D: Drop>(scene: &mut Scene<D>) -> Result<Entry<D>, FailureKind>
     ensures { Does rules.end scene.old result scene.new }
 {

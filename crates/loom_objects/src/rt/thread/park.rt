@@ -9,7 +9,7 @@ use crate::rt::scene::Scene;
 use crate::rt::thread::{State, Task};
 use loom_views::rt::failure::FailureKind;
 
-/// The active thread yields, and comes to a branch point.
+/// The active thread yields, and reaches a branch point.
 pub(crate) fn yield_now<D: Drop>(scene: &mut Scene<D>) -> Result<Entry<D>, FailureKind>
     ensures { Does rules.yield_now scene.old result scene.new }
 {
@@ -25,7 +25,7 @@ pub(crate) fn current<D: Drop>(scene: &Scene<D>) -> Entry<D>
     Entry::Answered(Reply::Thread(scene.active(), name))
 }
 
-/// The active thread takes its token, or is parked and comes to a branch point.
+/// The active thread takes its token, or is parked and reaches a branch point.
 pub(crate) fn park<D: Drop>(scene: &mut Scene<D>) -> Entry<D>
     ensures { Does rules.park scene.old (Ok result) scene.new }
 {

@@ -1,4 +1,4 @@
-//! What is told of runs that follow given choices.
+//! Explanations of runs that follow given choices.
 use super::lock_beside;
 use crate::tests::asserting::{same, script};
 use loom::Choice;
@@ -42,7 +42,7 @@ fn put_answer(told: &Result<Explanation, CheckError>, page: &mut Page) {
     }
 }
 
-// This is told of the run of the script that follows the choices.
+// This is the explanation of the run of the script that follows the choices.
 fn tells(
     rt: &(impl Abort + AllocGlobal),
     settings: Settings,
@@ -77,7 +77,7 @@ const NO_THREADS: Settings = Settings {
 
 #[test]
 fn runs_are_told(rt: HostRuntime) {
-    // A run that fails is told up to its last operation.
+    // A run that fails is explained up to its last operation.
     tells(&rt, DEFAULTS, CHILD_FAILS, &[], FAILS);
     // The given choices are followed.
     let choices = [Choice::Thread(Some(1))];

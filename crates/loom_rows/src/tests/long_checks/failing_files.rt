@@ -133,7 +133,7 @@ fn checks(rt: &(impl Abort + AllocGlobal), folder: &Folder) {
     holds(rt, is_named && is_so, "error 13 comes where a call failed");
 }
 
-// Whether the file has the text of a path that the check comes to, or is missing still.
+// Whether the file has the text of a path that the check reaches, or is missing still.
 fn is_whole(folder: &Folder) -> bool {
     for (text, _) in &NAMES {
         if folder.has(Some(*text)) {

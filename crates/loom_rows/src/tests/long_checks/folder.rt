@@ -29,7 +29,7 @@ pub(super) struct Folder {
 }
 
 impl Folder {
-    // The file has this text, if any. The call of this number fails, and where that is said each one after it.
+    /// The file has this text, if any. The call of this number fails, and where that is said each one after it.
     pub fn new(alloc: Global, text: Option<&str>, fails_at: u64, fails_on: bool) -> Folder {
         Folder {
             alloc,
@@ -41,17 +41,17 @@ impl Folder {
         }
     }
 
-    // Whether the file has just this text.
+    /// Whether the file has just this text.
     pub fn has(&self, text: Option<&str>) -> bool {
         is_text(&self.named, text)
     }
 
-    // Whether no file is beside it.
+    /// Whether no file is beside it.
     pub fn is_tidy(&self) -> bool {
         is_text(&self.beside, None)
     }
 
-    // Whether a call has failed.
+    /// Whether a call has failed.
     pub fn has_failed(&self) -> bool {
         self.calls.get() >= self.fails_at
     }
@@ -98,7 +98,7 @@ fn unsupported<T>() -> io::Result<T> {
     Err(io::Error::from(ErrorKind::Unsupported))
 }
 
-// An open file of the folder.
+/// An open file of the folder.
 #[derive(Drop)]
 pub struct Open<'a> {
     folder: &'a Folder,
@@ -165,7 +165,7 @@ impl<'a> OpenFile for Open<'a> {
     }
 }
 
-// No names.
+/// No names.
 #[derive(Drop)]
 pub struct NoNames;
 

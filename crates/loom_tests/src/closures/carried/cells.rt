@@ -213,7 +213,7 @@ pub(super) fn tell_and_write<R: Wait>(
     increment(handle, cell)
 }
 
-// A test of cells, with its name and what its check comes to.
+// A test of cells, with its name and what its check finds.
 macro_rules! test {
     ($name:ident, $scene:expr, $wanted:expr) => {
         Test {

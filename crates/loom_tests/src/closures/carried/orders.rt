@@ -168,7 +168,7 @@ pub(super) fn wait_and_look<R: Wait>(
     Ok(u64::from(handle.load(other, Acquire)?))
 }
 
-// A test of orders, with its name and what its check comes to.
+// A test of orders, with its name and what its check finds.
 macro_rules! test {
     ($name:ident, $scene:expr, $wanted:expr) => {
         Test {

@@ -64,7 +64,7 @@ fn try_written<R: Wait>(handle: &mut Handle<u64, R>) -> Result<u64, Stop> {
     Ok(0)
 }
 
-// A test of these, with its name and what its check comes to.
+// A test of these, with its name and what its check finds.
 macro_rules! test {
     ($name:ident, $scene:expr, $wanted:expr) => {
         Test {

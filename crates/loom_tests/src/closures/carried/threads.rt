@@ -174,7 +174,7 @@ fn told_by(name: Option<Name>) -> u64 {
     }
 }
 
-// A test of threads, with its name and what its check comes to.
+// A test of threads, with its name and what its check finds.
 macro_rules! test {
     ($name:ident, $scene:expr, $wanted:expr) => {
         Test {

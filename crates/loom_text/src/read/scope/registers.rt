@@ -18,7 +18,7 @@ impl Scope<'_> {
         register_named(&self.registers, token.spelling)
     }
 
-    /// Declares a register of the thread. A name that stands in no open block may have been declared before, and is the same register.
+    /// Declares a register of the thread. A name that is in no open block may have been declared before, and is the same register.
     #[tactic(auto, unfolding(crate::specs::Statements::register_declared))]
     pub(crate) fn declare_register(&mut self, token: Token<'_>) -> Result<usize, Stop>
         ensures { Gives (λ register. (register, known self.new, self.new.open.items)) result

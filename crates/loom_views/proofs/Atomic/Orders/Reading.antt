@@ -37,7 +37,7 @@ module _ (k : ℕ) (o : Ordered) (i : ℕ) (kept : IsKept o.stores i) where
   was-kept : (j : ℕ) → IsKept (order_raised k o i).stores j → IsKept o.stores j
   was-kept j q = (q.0, subst (λ n. j < n) as_many q.1)
 
-  -- what stands in a slot then
+  -- what is in a slot then
   in-same : (j : ℕ) → j ≡ i → in_slot (order_raised k o i).stores j ≡ written
   in-same j e = rw e (in_slot-set_same o.stores written i kept.1)
 

@@ -77,7 +77,7 @@ module _ (p : Points) (t n : ℕ) (own : ThreadPoints) (e : slice_get p.threads 
       go (Some (Records cell)) q = tt
       go (Some (Keeps history)) q = h history q
 
-  -- what stands in the scene that it comes to
+  -- what is in the scene that it leads to
   in-scene : (of : Option Place → List ℕ) (history : History) (s : Scene) → slice_get p.places n ≡ Some (Keeps history) → GrownBy t p.graph s.graph → of (Some (Keeps s.history)) ≡ of (Some (Keeps history)) ++ own.present ∷ [] → RecordsRaising of n own.present p (points_of p t n s)
   in-scene of history s q g k =
       let there : slice_get (slice_set p.places n (Keeps s.history)) n ≡ Some (Keeps s.history) = get-set_same p.places n (Keeps s.history) (slice_get_within p.places n (Keeps history) q) in

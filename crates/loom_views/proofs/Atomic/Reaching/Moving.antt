@@ -79,7 +79,7 @@ module _ (p : Points) (five : length p.threads ≤ 5) where
       let grown : GrownBy 5 p.graph g = quiet _ same in
       adds-set p (with_place p n g (Meets (length p.graph))) n (Meets k) (Meets (length p.graph)) (extends-grown grown) five e refl (record { reads = more-none []; writes = more-none []; loads = raising-none g []; stored = raising-none g [] })
 
-  -- stamps are written where they stand, and no object changes
+  -- stamps are written in their places, and no object changes
   stamp_write-adds : (m k : ℕ) (g : Graph) → Extends p.graph g → Adds p (record p { graph = g; stamps = slice_set p.stamps m k })
   stamp_write-adds m k g h = adds-quiet p _ h five refl
 
@@ -207,7 +207,7 @@ module _ (p : Points) (five : length p.threads ≤ 5) where
       go (Some own) (Some (Records cell)) d e = tt
       go (Some own) (Some (Keeps history)) d e = h own history d e
 
-  -- it comes to a scene with more loads and stores
+  -- it leads to a scene with more loads and stores
   scene-adds : (t n : ℕ) (history : History) (s : Scene) → slice_get p.places n ≡ Some (Keeps history) → Extends p.graph s.graph → MoreRaising s.graph history.loads s.history.loads → MoreRaising s.graph history.stored s.history.stored → Adds p (points_of p t n s)
   scene-adds t n history s e h loads stored = adds-set p (points_of p t n s) n (Keeps history) (Keeps s.history) h (omega (arith, length-set p.threads t s.thread)) e refl (record { reads = more-none []; writes = more-none []; loads = loads; stored = stored })
 

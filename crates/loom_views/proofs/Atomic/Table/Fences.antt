@@ -45,11 +45,11 @@ places-length g [] (k ∷ kept) h = absurd (h 0)
 places-length g (p ∷ places) [] h = absurd (h 0)
 places-length g (p ∷ places) (k ∷ kept) h = ap suc (places-length g places kept (λ n. h (suc n)))
 
--- where thread t stands once its fence has come to object n
+-- where thread t stands once its fence has reached object n
 abbrev pub fenced : Points → ThreadPoints → ℕ → Standing
 fenced p own n = after_stores (record { graph = p.graph; thread = own }) (flat_map stores_at (take n p.places))
 
--- what holds of a thread's views as its fence has come to object n
+-- what holds of a thread's views as its fence has reached object n
 abbrev pub IsFenced : Views → ℕ → ThreadViews → ThreadViews → ℕ → Type 0
 IsFenced v t before views n = (p : Points) (own : ThreadPoints) → ShowsViews p v → IsPresent p.graph t own.present → ShowsThread p.graph t own before → ShowsStanding t (fenced p own n) views
 

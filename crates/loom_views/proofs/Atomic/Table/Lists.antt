@@ -27,7 +27,7 @@ get-append_other [] (suc i) x n = refl
 get-append_other (y ∷ xs) zero x n = refl
 get-append_other (y ∷ xs) (suc i) x n = get-append_other xs i x (λ e. n (ap suc e))
 
--- an element written where it stands
+-- an element written in its place
 pub set-same : {X : Type 0} (xs : List X) (i : ℕ) (x : X) → slice_get xs i ≡ Some x → set xs i x ≡ xs
 set-same [] i x e = refl
 set-same (y ∷ xs) zero x e = let d : y ≡ x = cc in ap (λ z. z ∷ xs) (sym d)

@@ -25,7 +25,7 @@ pub record IsKeeping (t : ℕ) (step : Scene → Result Answer FailureKind) : Ty
   pub grows : (s : Scene) → LeadsTo (Grows t s.graph) (step s)
   pub stores : (s : Scene) → HasStore s → LeadsTo HasStore (step s)
 
--- the store that is read is written where it stood
+-- the store that is read is written in its place
 read-stores : (t : ℕ) (s : Scene) (slot : ℕ) → HasStore s → HasStore (scene_read t s slot)
 read-stores t s slot h = subst (λ n. 0 < n) (sym (read-length t s slot)) h
 
@@ -139,6 +139,6 @@ all-unchanged {A} v t n d views state new (Err kind) e h k =
     ∙ ap (λ (xs : List ThreadViews). record v { threads = xs; places = set v.places n (Atomic new) }) (set-get_or v.threads t d)
     ∙ kept-unchanged {A = A} v n state new (Err kind) e h
 
--- an object that is written where it stands
+-- an object that is written in its place
 pub place-unchanged : (v : Views) (n : ℕ) (kept : Kept) → slice_get v.places n ≡ Some kept → ◌≡◌ {A = Views} (record v { places = set v.places n kept }) v
 place-unchanged v n kept e = ap (λ (xs : List Kept). record v { places = xs }) (set-same v.places n kept e)

@@ -102,7 +102,7 @@ impl State {
     }
 
     /// The set of the slots that the reader may choose: those of the stores that no kept store keeps it from. Where two orders
-    /// are equal on the way it is `OrdersEqual`, which by law `crate::laws::choices_never_meet_equal_orders` no run comes to. By
+    /// are equal on the way it is `OrdersEqual`, which by law `crate::laws::choices_never_meet_equal_orders` no run meets. By
     /// law `crate::laws::some_slot_is_readable` there is always a slot (loom's `rt/atomic.rs`).
     pub fn readable(
         &self,

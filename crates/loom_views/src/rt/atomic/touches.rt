@@ -67,7 +67,7 @@ impl Touches {
         self.word = lanes::set(self.word, thread, version);
     }
 
-    /// Whether a touch has come to this view (own).
+    /// Whether a touch is in this view (own).
     pub fn is_one_in(&self, view: &VersionVec) -> bool
         ensures { result ≡ is_touch_in self.now view.now }
     {
@@ -97,7 +97,7 @@ impl Touches {
         word_digest(self.word)
     }
 
-    /// Their counts stand too (own).
+    /// Adds their counts (own).
     pub fn stand(&self, standing: &mut Standing) {
         if self.word == u128::MAX {
             return;

@@ -31,7 +31,7 @@ impl Model for Places {
 }
 
 /// This view is kept, in the place of what was kept there.
-// Where a point stood there, nothing else of it is written.
+// Where a point was there, nothing else of it is written.
 #[inline(always)]
 fn set_point(place: &mut Kept, sync: Synchronize)
     ensures { place.new ≡ Point sync }

@@ -79,7 +79,7 @@ impl RankedViews {
 }
 
 impl Views {
-    /// Views that rules see the same of: with each count of a thread by its rank among those of the thread that stand somewhere
+    /// Views that rules see the same of: with each count of a thread by its rank among those of the thread that are somewhere
     /// in these. The room of the spare ones is used for them. An error where memory is refused (own).
     #[tactic(auto, using(crate::proofs::Sight::InOrder::in_order_itself))]
     pub fn ranked(&self, alloc: Global, spare: RankedViews) -> Result<RankedViews, AllocError>
@@ -109,7 +109,7 @@ impl Views {
         })
     }
 
-    /// The counts of these views stand too.
+    /// Adds the counts of these views.
     fn stand(&self, standing: &mut Standing) {
         standing.add_all(&self.global);
         for thread in 0..MAX_THREADS {
@@ -147,14 +147,14 @@ impl Views {
     }
 }
 
-/// The counts of what is kept of objects stand too.
+/// Adds the counts of what is kept of objects.
 fn stand_places(places: &[Kept], standing: &mut Standing) {
     for kept in places {
         kept.stand(standing);
     }
 }
 
-/// So do those of stamps.
+/// Adds those of stamps.
 fn stand_stamps(stamps: &[Synchronize], standing: &mut Standing) {
     for stamp in stamps {
         stamp.stand(standing);

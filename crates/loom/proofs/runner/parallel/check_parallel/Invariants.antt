@@ -7,7 +7,7 @@ use Rattle.loom.specs.Model.Settings.{explores, most_runs, search_of}
 use Rattle.loom.specs.Runner.Parallel.{HasGoneOn}
 use Rattle.loom.proofs.runner.parallel.check_parallel.Given as goal
 
--- so many runs were made, and the search has come to the list
+-- so many runs were made, and the search has reached the list
 abbrev pub invariant-turns : goal.invariant-turns
 invariant-turns g l = record {
   within : l.runs ≤ most_runs l.builder;

@@ -27,7 +27,7 @@ use loom_views::same::Same;
 use std::alloc::{AllocError, Global};
 use std::marker::Model;
 
-/// Where a thread is in a recording. It stands in the place of a body in what is noted, and is never resumed.
+/// Where a thread is in a recording. It takes the place of a body in what is noted, and is never resumed.
 #[derive(Drop)]
 pub(crate) struct Place(usize);
 
@@ -91,7 +91,7 @@ impl<D: Exact> Room<D> {
     }
 }
 
-/// One run along the path, from its start, by what is recorded, with these states. None where a thread comes to an answer that isn't
+/// One run along the path, from its start, by what is recorded, with these states. None where a thread needs an answer that isn't
 /// recorded: then the path is left on the way.
 pub(crate) fn run<D: Exact + Same>(
     room: &mut Room<D>,

@@ -77,7 +77,7 @@ pub(super) fn make_turn<
     Ok(turn)
 }
 
-/// What the next run of each part comes to is recorded.
+/// What the next run of each part needs is recorded.
 fn record_each<
     D: Exact + 'static,
     R: Threads + Wait + Clone + Send + 'static,
@@ -112,7 +112,7 @@ fn record_each<
     Ok(())
 }
 
-/// What the part's next run comes to is recorded.
+/// What the part's next run needs is recorded.
 fn record_next<
     D: Exact + 'static,
     R: Threads + Wait + Clone + Send + 'static,

@@ -1,7 +1,7 @@
 use Rattle.loom_engine.proofs.Execution.Growing.{IsLeft}
 use Rattle.loom_engine.proofs.rt.execution.schedule.Given as goal
 
--- what the schedules that are left come to is what all come to
+-- the schedules that are left end as all do
 abbrev pub invariant-passes : goal.invariant-passes
 invariant-passes g l = IsLeft l.fn.more l.fn.run l.fn.path l.left l.run l.path
 

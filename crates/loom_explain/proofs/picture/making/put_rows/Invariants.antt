@@ -1,4 +1,4 @@
--- Up to the place each event is told or folded.
+-- Up to the place each event is shown or folded.
 use Rattle.std.proofs.Common.{◌-◌, ◌≤◌, length, take}
 use Rattle.loom_explain.specs.Pictures.{IsWhole, Tells}
 use Rattle.loom_explain.proofs.picture.making.put_rows.Given as goal

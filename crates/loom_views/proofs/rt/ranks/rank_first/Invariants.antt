@@ -3,7 +3,7 @@ use Rattle.loom_views.specs.InOrder.{AreBelow, AreRising, rank_of}
 use Rattle.loom_views.proofs.Ranks.{StandBefore}
 use Rattle.loom_views.proofs.rt.ranks.rank_first.Given as goal
 
--- those so far stand in order before this count, each below the next one
+-- those so far are in order before this count, each below the next one
 abbrev pub invariant-loop-count : goal.invariant-loop-count
 invariant-loop-count l =
     record {

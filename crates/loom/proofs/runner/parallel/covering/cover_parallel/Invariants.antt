@@ -3,7 +3,7 @@ use Rattle.loom.specs.Model.Settings.{most_runs}
 use Rattle.loom.proofs.RunnerLemmas.Covering.{HasCome}
 use Rattle.loom.proofs.runner.parallel.covering.cover_parallel.Given as goal
 
--- so many runs were begun, which a number holds, and the search has come to the list and the table
+-- so many runs were begun, which a number holds, and the search has reached the list and the table
 abbrev pub invariant-turns : goal.invariant-turns
 invariant-turns g l = record {
   within : l.runs + l.met ≤ most_runs l.builder;

@@ -5,7 +5,7 @@ use Rattle.loom.specs.Runner.Check.{limits_of}
 use Rattle.loom.proofs.RunnerLemmas.RecordedWorkers.{IsFinding}
 use Rattle.loom.proofs.runner.recorded.workers.find_by.Given as goal
 
--- so many runs were made, some of them of the closure, and the search has come to the list by each function that does what was done in
+-- so many runs were made, some of them of the closure, and the search has reached the list by each function that does what was done in
 -- these
 abbrev pub invariant-turns : goal.invariant-turns
 invariant-turns g l = record {

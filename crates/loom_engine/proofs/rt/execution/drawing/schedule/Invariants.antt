@@ -4,7 +4,7 @@ use Rattle.loom_engine.specs.Path.Route.{IsSame}
 use Rattle.loom_engine.proofs.Execution.Drawing.{IsLeftDrawn}
 use Rattle.loom_engine.proofs.rt.execution.drawing.schedule.Given as goal
 
--- what the schedules that are left come to is what all come to
+-- the schedules that are left end as all do
 abbrev pub invariant-passes : goal.invariant-passes
 invariant-passes g l = record {
   left : IsLeftDrawn l.fn.more l.fn.run l.fn.path l.left l.run l.path;

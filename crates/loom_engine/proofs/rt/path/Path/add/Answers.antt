@@ -46,7 +46,7 @@ invariant_of-self c =
       subst (λ l. IsTally l p.position c.self.inside.tally) (sym c.set.ensures) (tally_set p.nodes c.args.place old new is same p.position c.self.inside.tally c.self.invariant.4),
     )
 
--- the node that stands there is set there again
+-- the node that is there is set there again
 set_here : (nodes : List Node) (k : ℕ) (n : Node) → slice_get nodes k ≡ Some n → slice_set nodes k n ≡ nodes
 set_here [] k n e = refl
 set_here (x ∷ nodes) zero n e = (let same : x ≡ n = cc e in ap (λ (y : Node). y ∷ nodes) (sym same))
