@@ -16,3 +16,4 @@ pub mod Sweeping
 pub mod Table
 pub mod TableLaws
 pub mod Touches
+pub mod Vectors

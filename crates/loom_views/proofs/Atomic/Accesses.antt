@@ -17,15 +17,16 @@ use Rattle.loom_views.proofs.Atomic.SlotNumbers.{in_slot-set_same, in_slot-set_o
 use Rattle.loom_views.specs.Versions.{zeros, join, within}
 use Rattle.loom_views.specs.ThreadViews.{ThreadPoints, ShowsThread, graph_after_load}
 use Rattle.loom_views.specs.Atomic.History.{Scene, Answer, in_slot, seen_orders, graph_with_order, graph_with_start, races, scene_read, scene_loaded, scene_made, scene_recorded_load, scene_recorded_store, scene_recorded_unsync_load, scene_recorded_mutation, load_step, store_step, update_read_step, update_write_step, unsync_load_step, mutate_step, mutate_end_step, new_step, newest_value, new_history, with_newest, blank, StorePoints}
-use Rattle.loom_views.specs.Atomic.Ring.{Accessed, store_at, state_read, state_made, views_loaded, load_now, store_now, load_passed, store_passed, update_read_now, update_read_passed, update_write_now, update_write_passed, unsync_load_now, value_passed, mutate_now, mutate_passed, mutate_end_now, ended, newest_slot, state_closed, state_blank, blank_store}
-use Rattle.loom_views.specs.Atomic.Shown.{ShowsStart, ShowsStore, ShowsRecord, ShowsScene}
+use Rattle.loom_views.specs.Atomic.Ring.{store_at, state_read, state_made, newest_slot, state_blank, blank_store}
+use Rattle.loom_views.specs.Atomic.Shown.{ShowsStore, ShowsRecord, ShowsScene}
 use Rattle.loom_views.proofs.Views.Views.{shows-old, shows-joined, chained-moved, present-new}
 use Rattle.loom_views.proofs.Views.Records.{races-is, record-one, record-more}
 use Rattle.loom_views.proofs.Views.ThreadMoves.{touch-old}
 use Rattle.loom_views.proofs.Views.Growth.{shows-grown}
 use Rattle.loom_views.proofs.Atomic.Growth.{scene_read-grown}
 use Rattle.loom_views.proofs.Atomic.Reads.{scene_grown, scene_read-shown}
-use Rattle.loom_views.proofs.Atomic.Shown.{state-old, make-shown}
+use Rattle.loom_views.proofs.Atomic.Shown.{ShowsStart, state-old, make-shown}
+use Rattle.loom_views.proofs.Atomic.Vectors.{Accessed, views_loaded, load_now, store_now, load_passed, store_passed, update_read_now, update_read_passed, update_write_now, update_write_passed, unsync_load_now, value_passed, mutate_now, mutate_passed, mutate_end_now, ended, state_closed}
 
 pub scene_loaded-shown : (t : ℕ) (s : Scene) (views : ThreadViews) (state : State) (k : ℕ) (sync : List ℕ) (order : Ordering) → Shows s.graph k sync → ShowsScene t s views state → ShowsScene t (scene_loaded s k order) (views_loaded views sync order) state
 scene_loaded-shown t s views state k sync order q z = ⊎_elim yes no (cases_Bool (is_acquire order))

@@ -13,12 +13,13 @@ use Rattle.loom_views.specs.Graph.{Graph, IsChained}
 use Rattle.loom_views.specs.Atomic.Slots.{upto, slots, readable_slots, has_order_of, has_equal_order_at, has_equal_orders}
 use Rattle.loom_views.specs.ThreadViews.{ThreadPoints, ShowsTouch, ShowsThread}
 use Rattle.loom_views.specs.Atomic.History.{StorePoints, Scene, Answer, in_slot, touch_of, is_touch_before, is_below, has_same_order, drops, drops_in_slot, has_same_order_in_slot, readable, fails_by_orders}
-use Rattle.loom_views.specs.Atomic.Ring.{Accessed, store_at, is_version_before, is_order_below, is_order_same, is_same_slot, drops_store, drops_slot, readable_now, fails_now}
+use Rattle.loom_views.specs.Atomic.Ring.{store_at, is_version_before, is_order_below, is_order_same, is_same_slot, drops_store, drops_slot}
 use Rattle.loom_views.specs.Atomic.Shown.{ShowsStore, ShowsScene, AnswersAs, FinishesAs}
 use Rattle.loom_views.proofs.Views.Views.{shows-inside}
 use Rattle.loom_views.proofs.Atomic.Loops.{all_upto, list_any-agree, filter-agree}
 use Rattle.loom_views.proofs.Atomic.Shown.{seen-is}
 use Rattle.loom_views.proofs.Atomic.Accesses.{Agrees}
+use Rattle.loom_views.proofs.Atomic.Vectors.{Accessed}
 
 -- orders are compared as the views of their points are
 pub below-is : (g : Graph) (i j : StorePoints) (i' j' : Store) → IsChained g → ShowsStore g i i' → ShowsStore g j j' → is_order_below i' j' ≡ is_below g i j
@@ -43,6 +44,16 @@ unfolding drops
 drops-is g t p views Update i j i' j' c l th a b = below-is g i j i' j' c a b
 drops-is g t p views (Load order) i j i' j' c l th a b =
     rw (below-is g i j i' j' c a b, sym (seen-is g j j' p.present views.present c th.present b), before-is g t (touch_of i t) p.yielded (slice_index_or i'.first_seen.versions t None) views.last_yield (a.touched t l) th.yielded, sym a.seq_cst, sym b.seq_cst) refl
+
+-- ---- the slots of which a reader chooses
+
+-- those that it may choose, in rising order
+abbrev pub readable_now : State → ℕ → ThreadViews → Reader → List ℕ
+readable_now state t views reader = readable_slots (drops_slot state t views reader) state.count
+
+-- the choice fails, since two orders are equal on the way
+abbrev pub fails_now : State → ℕ → ThreadViews → Reader → Bool
+fails_now state t views reader = has_equal_orders (is_same_slot state) (drops_slot state t views reader) state.count
 
 -- choices by tests that agree on the slots in use
 all_slots : (P : ℕ → Type 0) (n : ℕ) → ((i : ℕ) → i < 7 → i < n → P i) → AllByRecursion P (slots n)

@@ -7,11 +7,12 @@ use Rattle.loom_views.specs.declared.rt.atomic.Store.{Store}
 use Rattle.loom_views.specs.declared.rt.synchronize.ThreadViews.{ThreadViews}
 use Rattle.loom_views.specs.Atomic.Slots.{number_in_slot}
 use Rattle.loom_views.specs.Atomic.History.{StorePoints, Scene, in_slot, blank, is_seen}
-use Rattle.loom_views.specs.Atomic.Ring.{is_touch_in, views_loaded}
+use Rattle.loom_views.specs.Atomic.Ring.{is_touch_in}
 use Rattle.loom_views.specs.Atomic.Fences.{Standing, after_store, after_stores, kept_stores, standing_in, scene_at}
 use Rattle.loom_views.specs.Atomic.Shown.{ShowsStore, ShowsScene}
 use Rattle.loom_views.proofs.Atomic.Shown.{seen-is}
 use Rattle.loom_views.proofs.Atomic.Accesses.{scene_loaded-shown}
+use Rattle.loom_views.proofs.Atomic.Vectors.{views_loaded}
 
 -- a store that is seen, and one that isn't
 pub seen-gained : (t : ℕ) (s : Scene) (views : ThreadViews) (state : State) (points : StorePoints) (store : Store) → ShowsStore s.graph points store → ShowsScene t s views state → is_touch_in store.first_seen.versions views.present ≡ true → ShowsScene t (scene_at s (after_store (standing_in s) points)) (views_loaded views store.sync Acquire) state

@@ -11,12 +11,12 @@ use Rattle.loom_views.specs.declared.rt.synchronize.ThreadViews.{ThreadViews}
 use Rattle.loom_views.specs.Graph.{Point, Graph, threads, version, Shows, IsChained}
 use Rattle.loom_views.specs.Atomic.Touches.{untouched}
 use Rattle.loom_views.specs.Orderings.{is_release, is_seq_cst}
-use Rattle.loom_views.specs.Versions.{join_all}
+use Rattle.loom_views.specs.Versions.{join_all, zeros}
 use Rattle.loom_views.specs.Atomic.Slots.{slots, is_left_out, number_in_slot}
 use Rattle.loom_views.specs.ThreadViews.{ThreadPoints, ShowsTouch, ShowsThread, graph_after_store}
 use Rattle.loom_views.specs.Atomic.History.{StorePoints, History, in_slot, touch_of, is_touch_seen, is_seen, is_order_seen_from, seen_orders, touch, graph_after_read, stores_after_read, graph_with_order, graph_with_start, graph_after_make, stores_after_make}
 use Rattle.loom_views.specs.Atomic.Ring.{store_at, blank_store, is_version_seen, is_touch_in, is_order_seen, orders_seen, touch_version, store_read, vector_stored, store_made, state_made}
-use Rattle.loom_views.specs.Atomic.Shown.{ShowsStore, ShowsState, ShowsStart}
+use Rattle.loom_views.specs.Atomic.Shown.{ShowsStore, ShowsState}
 use Rattle.loom_views.proofs.Atomic.Loops.{all_upto, list_any-agree, filter-agree}
 use Rattle.loom_views.proofs.Atomic.SlotNumbers.{in_slot-new, in_slot-old, in_slot-set_same, in_slot-set_other}
 use Rattle.loom_views.proofs.Views.Counted.{counts-at}
@@ -164,6 +164,11 @@ stored-shown g t p views k sync order c th s = ⊎_elim yes no (cases_Bool (is_r
 
     no : is_release order ≡ false → Shows (graph_after_store g p k order) (length g) (vector_stored sync views order)
     no e = rw e (shows-moved g k (p.released ∷ []) sync (views.released ∷ []) c s (th.released, tt))
+
+-- what a new store's synchronization starts with: nothing, or the view of the point that it copies
+abbrev pub ShowsStart : Graph → Option ℕ → List ℕ → Type 0
+ShowsStart g None view = view ≡ zeros
+ShowsStart g (Some k) view = Shows g k view
 
 start-shown : (g : Graph) (copied : Option ℕ) (sync : List ℕ) → IsChained g → ShowsStart g copied sync → Shows (graph_with_start g copied) (length g) sync
 start-shown g None sync c s = rw s (shows-start g c)

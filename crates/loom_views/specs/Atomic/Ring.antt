@@ -1,9 +1,9 @@
 -- What is kept of an atomic, in vectors.
-use Rattle.std.specs.Prelude.{ℕ, ◌≡◌, ◌<◌, ◌+◌, ◌%◌, Bool, true, false, not, ◌&&◌, ◌||◌, ◌==◌, nat_le, if◌then◌else◌, List, [], ◌∷◌, map, slice_index, slice_index_or, slice_set, Option, Some, None, is_some, Result, Ok, Err, nat_lt}
+use Rattle.std.specs.Prelude.{ℕ, ◌≡◌, ◌<◌, ◌+◌, ◌%◌, Bool, false, not, ◌&&◌, ◌||◌, ◌==◌, nat_le, if◌then◌else◌, List, [], ◌∷◌, map, slice_index, slice_index_or, slice_set, Option, Some, None, is_some, Result, Ok, Err}
 use Rattle.std.specs.List.{list_all}
 use Rattle.loom_views.specs.Atomic.Touches.{untouched}
 use Rattle.loom_views.specs.declared.rt.failure.FailureKind.{FailureKind}
-use Rattle.loom_views.specs.declared.rt.failure.FailureKind.TheVariants.{Race, OpenAccess, TooManyStores}
+use Rattle.loom_views.specs.declared.rt.failure.FailureKind.TheVariants.{Race, OpenAccess}
 use Rattle.std.specs.List.{list_any, filter}
 use Rattle.std.specs.declared.sync.atomic.Ordering.{Ordering}
 use Rattle.loom_views.specs.declared.rt.atomic.reader.Reader.{Reader}
@@ -13,9 +13,8 @@ use Rattle.loom_views.specs.declared.rt.atomic.State.{State}
 use Rattle.loom_views.specs.declared.rt.synchronize.ThreadViews.{ThreadViews}
 use Rattle.loom_views.specs.Graph.{threads}
 use Rattle.loom_views.specs.Versions.{join_all, join, within, zeros}
-use Rattle.loom_views.specs.Atomic.Slots.{slots, is_left_out, readable_slots, has_equal_orders}
-use Rattle.loom_views.specs.Orderings.{is_acquire, is_release, is_seq_cst}
-use Rattle.loom_views.specs.Limits.{most_stores}
+use Rattle.loom_views.specs.Atomic.Slots.{slots, is_left_out}
+use Rattle.loom_views.specs.Orderings.{is_release, is_seq_cst}
 
 -- a kept version, if there is one, isn't above a view's
 abbrev pub is_version_seen : Option ℕ → ℕ → Bool
@@ -61,10 +60,6 @@ drops_store t views (Load order) i j = is_order_below i j && is_passed t views o
 abbrev pub drops_slot : State → ℕ → ThreadViews → Reader → ℕ → ℕ → Bool
 drops_slot state t views reader i j = drops_store t views reader (store_at state.stores i) (store_at state.stores j)
 
--- the slots that the reader may choose, in rising order
-abbrev pub readable_now : State → ℕ → ThreadViews → Reader → List ℕ
-readable_now state t views reader = readable_slots (drops_slot state t views reader) state.count
-
 -- the stores in two slots have equal orders
 abbrev pub is_same_slot : State → ℕ → ℕ → Bool
 is_same_slot state i j = is_order_same (store_at state.stores i) (store_at state.stores j)
@@ -80,10 +75,6 @@ is_slot_below stores i j = is_order_below (store_at stores i) (store_at stores j
 -- and it is seen in a view
 abbrev pub is_below_seen : List Store → List ℕ → ℕ → ℕ → Bool
 is_below_seen stores view i j = is_slot_below stores i j && is_touch_in (store_at stores j).first_seen.versions view
-
--- the choice fails, since two orders are equal on the way
-abbrev pub fails_now : State → ℕ → ThreadViews → Reader → Bool
-fails_now state t views reader = has_equal_orders (is_same_slot state) (drops_slot state t views reader) state.count
 
 -- thread t touches at version n, if it hasn't touched before
 abbrev pub touch_version : List (Option ℕ) → ℕ → ℕ → List (Option ℕ)
@@ -145,16 +136,6 @@ store_made state t views sync value order =
 abbrev pub state_made : State → ℕ → ThreadViews → List ℕ → ℕ → Ordering → State
 state_made state t views sync value order = record state { stores = slice_set state.stores (state.count % 7) (store_made state t views sync value order); count = state.count + 1 }
 
--- what a load brings to the thread
-abbrev pub views_loaded : ThreadViews → List ℕ → Ordering → ThreadViews
-views_loaded views sync order = record views { present = if is_acquire order then join views.present sync else views.present }
-
--- what an access leaves
-pub record Accessed : Type 0 where
-  pub state : State
-  pub views : ThreadViews
-  pub value : ℕ
-
 -- an access whose tests pass, or a failure: an open mutation, or a race
 abbrev pub tested : State → List Bool → Result State FailureKind → Result State FailureKind
 tested state tests passed = if state.is_mutating then Err OpenAccess else (if list_all (λ b. b) tests then passed else Err Race)
@@ -175,83 +156,9 @@ unsync_load_tracked state views = tested state (within state.unsync_mut_at views
 abbrev pub unsync_mut_tracked : State → ThreadViews → Result State FailureKind
 unsync_mut_tracked state views = tested state (within state.loaded_at views.present ∷ within state.unsync_loaded_at views.present ∷ within state.stored_at views.present ∷ within state.unsync_mut_at views.present ∷ []) (Ok (record state { unsync_mut_at = join state.unsync_mut_at views.present }))
 
--- a load
-abbrev pub load_passed : ℕ → ThreadViews → ℕ → Ordering → Result State FailureKind → Result Accessed FailureKind
-load_passed t views slot order (Err kind) = Err kind
-load_passed t views slot order (Ok state) = let read = store_at state.stores slot in Ok (record { state = state_read state t views slot; views = views_loaded views read.sync order; value = read.value })
-
--- a load of the store in a slot
-abbrev pub load_now : State → ℕ → ThreadViews → ℕ → Ordering → Result Accessed FailureKind
-load_now state t views slot order = load_passed t views slot order (load_tracked state views)
-
--- a store
-abbrev pub with_room_now : State → Result Accessed FailureKind → Result Accessed FailureKind
-with_room_now state made = if nat_lt state.count most_stores then made else Err TooManyStores
-
--- a store whose tests have passed
-abbrev pub store_passed : ℕ → ThreadViews → ℕ → Ordering → Result State FailureKind → Result Accessed FailureKind
-store_passed t views value order (Err kind) = Err kind
-store_passed t views value order (Ok state) = with_room_now state (Ok (record { state = state_made state t views zeros value order; views = views; value = value }))
-
--- a store of a value
-abbrev pub store_now : State → ℕ → ThreadViews → ℕ → Ordering → Result Accessed FailureKind
-store_now state t views value order = store_passed t views value order (store_tracked state views)
-
--- a read-modify-write
-abbrev pub update_read_passed : ℕ → ThreadViews → ℕ → Result State FailureKind → Result Accessed FailureKind
-update_read_passed t views slot (Err kind) = Err kind
-update_read_passed t views slot (Ok state) = Ok (record { state = state_read state t views slot; views = views; value = (store_at state.stores slot).value })
-
--- a read-modify-write reads the store in a slot
-abbrev pub update_read_now : State → ℕ → ThreadViews → ℕ → Result Accessed FailureKind
-update_read_now state t views slot = update_read_passed t views slot (load_tracked state views)
-
--- its write, once the tests have passed: the thread loads, and the new store starts with what the old one released
-abbrev pub update_write_passed : ℕ → ThreadViews → ℕ → ℕ → Ordering → Result State FailureKind → Result Accessed FailureKind
-update_write_passed t views slot value success (Err kind) = Err kind
-update_write_passed t views slot value success (Ok state) =
-    let sync = (store_at state.stores slot).sync in
-    let loaded = views_loaded views sync success in
-    with_room_now state (Ok (record { state = state_made state t loaded sync value success; views = loaded; value = value }))
-
--- its write where it succeeds
-abbrev pub update_write_now : State → ℕ → ThreadViews → ℕ → ℕ → Ordering → Result Accessed FailureKind
-update_write_now state t views slot value success = update_write_passed t views slot value success (store_tracked state views)
-
--- accesses that don't synchronize
+-- the slot of the newest store
 abbrev pub newest_slot : State → ℕ
 newest_slot state = (state.count + 6) % 7
-
--- the newest value, once the tests have passed
-abbrev pub value_passed : ThreadViews → Result State FailureKind → Result Accessed FailureKind
-value_passed views (Err kind) = Err kind
-value_passed views (Ok state) = Ok (record { state = state; views = views; value = (store_at state.stores (newest_slot state)).value })
-
--- a load that doesn't synchronize
-abbrev pub unsync_load_now : State → ThreadViews → Result Accessed FailureKind
-unsync_load_now state views = value_passed views (unsync_load_tracked state views)
-
--- a mutation opens, once the tests have passed
-abbrev pub mutate_passed : ThreadViews → Result State FailureKind → Result Accessed FailureKind
-mutate_passed views (Err kind) = Err kind
-mutate_passed views (Ok state) = Ok (record { state = record state { is_mutating = true }; views = views; value = (store_at state.stores (newest_slot state)).value })
-
--- a mutation
-abbrev pub mutate_now : State → ThreadViews → Result Accessed FailureKind
-mutate_now state views = mutate_passed views (unsync_mut_tracked state views)
-
--- the mutation is closed, and has left a value in the newest store
-abbrev pub state_closed : State → ℕ → State
-state_closed state value = let newest = store_at state.stores (newest_slot state) in record state { is_mutating = false; stores = slice_set state.stores (newest_slot state) (record newest { value = value }) }
-
--- its end, once the tests have passed
-abbrev pub ended : ThreadViews → ℕ → Result State FailureKind → Result Accessed FailureKind
-ended views value (Err kind) = Err kind
-ended views value (Ok state) = Ok (record { state = state; views = views; value = value })
-
--- a mutation ends
-abbrev pub mutate_end_now : State → ThreadViews → ℕ → Result Accessed FailureKind
-mutate_end_now state views value = ended views value (unsync_mut_tracked (state_closed state value) views)
 
 -- a new atomic
 abbrev pub state_blank : List ℕ → List Store → State

@@ -1,11 +1,10 @@
 -- What is kept in vectors shows the points of the graph.
-use Rattle.std.specs.Prelude.{ℕ, ◌<◌, ◌≡◌, List, length, slice_index_or, Option, Some, None, Result, Ok, Err}
+use Rattle.std.specs.Prelude.{ℕ, ◌<◌, ◌≡◌, length, slice_index_or, None, Result, Ok, Err}
 use Rattle.loom_views.specs.declared.rt.failure.FailureKind.{FailureKind}
 use Rattle.loom_views.specs.declared.rt.atomic.Store.{Store}
 use Rattle.loom_views.specs.declared.rt.atomic.State.{State}
 use Rattle.loom_views.specs.declared.rt.synchronize.ThreadViews.{ThreadViews}
 use Rattle.loom_views.specs.Graph.{Graph, Shows, IsChained, IsPresent}
-use Rattle.loom_views.specs.Versions.{zeros}
 use Rattle.loom_views.specs.ThreadViews.{ShowsTouch, ShowsThread}
 pub use Rattle.loom_views.specs.AccessRecords.{ShowsRecord}
 use Rattle.loom_views.specs.Atomic.History.{StorePoints, History, Scene, Answer, in_slot, touch_of}
@@ -20,11 +19,6 @@ pub record ShowsStore (g : Graph) (points : StorePoints) (store : Store) : Type 
   pub five : length points.touched ≡ 5
   pub five_kept : length store.first_seen.versions ≡ 5
   pub touched : (t : ℕ) → t < 5 → ShowsTouch g t (touch_of points t) (slice_index_or store.first_seen.versions t None)
-
--- what a new store's synchronization starts with: nothing, or the view of the point that it copies
-abbrev pub ShowsStart : Graph → Option ℕ → List ℕ → Type 0
-ShowsStart g None view = view ≡ zeros
-ShowsStart g (Some k) view = Shows g k view
 
 -- what is kept of an atomic: its last seven stores, and the records of its accesses
 pub record ShowsState (g : Graph) (h : History) (state : State) : Type 0 where
