@@ -22,7 +22,7 @@ use Rattle.loom_objects.specs.declared.rt.run.Resumed.TheVariants.{Passed as Tha
 use Rattle.loom_objects.specs.declared.rt.run.RunState.{RunState}
 use Rattle.loom_objects.specs.Rules.Atomic.{reads}
 use Rattle.loom_objects.specs.Rules.Tables.{chosen, counted, op_begins}
-use Rattle.loom_objects.specs.Failure.{failure_of, fails}
+use Rattle.loom_objects.specs.Failure.{failure_of}
 use Rattle.loom_objects.specs.Operation.Accessed.{accessed}
 use Rattle.loom_objects.specs.Tree.Stores.{asked_store, slots, slots_from}
 use Rattle.loom_objects.specs.Rules.Rule.{check}
@@ -39,7 +39,7 @@ use Rattle.loom_objects.specs.Stages.ChosenCopy.{TellsCopy, GivesCopy}
 -- a failure stops the run
 abbrev pub failing : {T : Type 0} → Result T FailureKind → Result T Stop
 failing (Ok value) = Ok value
-failing (Err kind) = fails kind
+failing (Err kind) = Err (failure_of kind)
 
 -- where each error is mapped so
 pub mapped : {T : Type 0} (answer : Result T FailureKind) (r : Result T Stop) → MatchResult answer (λ value. r ≡ Ok value) (λ kind. IsErrAnd r (λ stop. stop ≡ failure_of kind)) → r ≡ failing answer
