@@ -1,5 +1,5 @@
 -- What a test names, and what it may name in its condition.
-use Rattle.std.specs.Prelude.{ℕ, ◌≢◌, ◌<◌, ◌≤◌, List, Option, Some, None, length, All, AllPairs, IfSome, MatchOption, position, slice_get, String, string_bytes}
+use Rattle.std.specs.Prelude.{ℕ, ◌≢◌, ◌<◌, ◌≤◌, List, Option, length, All, AllPairs, IfSome, MatchOption, position, slice_get, String, string_bytes}
 use Rattle.std.specs.Str.{bytes_eq}
 use Rattle.std.specs.declared.alloc.Global.{Global}
 use Rattle.loom_text.specs.declared.test.Kind.{Kind}
@@ -42,14 +42,6 @@ location_named locations name = position (λ location. bytes_eq (string_bytes lo
 
 abbrev pub register_named : List (String Global) → List ℕ → Option ℕ
 register_named registers name = position (λ register. bytes_eq (string_bytes register) name) registers
-
--- its kind
-abbrev pub kind_in : Option Location → Option Kind
-kind_in None = None
-kind_in (Some location) = Some location.kind
-
-abbrev pub kind_at : List Location → ℕ → Option Kind
-kind_at locations number = kind_in (slice_get locations number)
 
 -- no two locations have one name, and no two registers of a thread
 abbrev pub LocationsDiffer : List Location → Type 0
