@@ -15,5 +15,4 @@ pub mod Sight
 pub mod Parts
 pub mod Kept
 pub mod UnderWay
-pub mod Lost
 pub mod Spread

@@ -14,11 +14,11 @@ use Rattle.loom_engine.specs.Walk.Path.{IsAtRest, Stored, choices, node_at, step
 use Rattle.loom_engine.specs.Walk.Driven.{IsLeftBy, IsOneOf}
 use Rattle.loom_engine.specs.Walk.Lists.{Begins}
 use Rattle.loom_engine.specs.Path.WellFormed.{AreAtRest}
-use Rattle.loom_engine.specs.Covering.Lost.{AreLost}
 use Rattle.loom_engine.specs.Covering.Table.{HasState, IsAlong, Notes, notes_more, notes_none}
 use Rattle.loom_engine.specs.Covering.UnderWay.{HasNode}
 use Rattle.loom_engine.proofs.Covering.Closing.{IsOff, below_off, node_kept, node_stepped, off_apart, off_kept, off_stepped}
 use Rattle.loom_engine.proofs.Covering.Cut.{later_rests, round}
+use Rattle.loom_engine.proofs.Covering.Lost.{AreLost}
 use Rattle.loom_engine.proofs.Covering.Rounds.{left_there, notes_rest}
 use Rattle.loom_engine.proofs.Covering.UnderWay.{node_within}
 use Rattle.loom_engine.proofs.Trees.Reporting.{search_law}

@@ -25,20 +25,20 @@ use Rattle.loom_engine.specs.Path.WellFormed.{AreAtRest}
 use Rattle.loom_engine.specs.declared.rt.path.Search.{Search}
 use Rattle.loom_engine.specs.Path.Route.{IsSameSearch, Route, at_rest, chosen, settings, stored, trail}
 use Rattle.loom_engine.specs.Path.Steps.{Steps}
-use Rattle.loom_engine.specs.Covering.Between.{AddsRun, AreMade, ComesTo, IsReady, IsWhole, Leads, Tracks}
+use Rattle.loom_engine.specs.Covering.Between.{AddsRun, IsReady, IsWhole, Leads, Tracks}
 use Rattle.loom_engine.specs.Covering.Covered.{IsGiven}
 use Rattle.loom_engine.specs.Covering.Cut.{with_run}
 use Rattle.loom_engine.specs.Covering.Kept.{AreKeptAfter, Key, Noted, beside}
 use Rattle.loom_engine.specs.Covering.Sight.{IsKnown, seen_by}
 use Rattle.loom_engine.specs.Covering.States.{state_after}
-use Rattle.loom_engine.specs.Covering.Lost.{AreLost}
 use Rattle.loom_engine.specs.Covering.Table.{IsAlong, Notes, notes_more, notes_none}
 use Rattle.loom_engine.specs.Covering.UnderWay.{HasNode}
 use Rattle.loom_engine.specs.Covering.World.{IsCalled, world_of}
 use Rattle.loom_engine.proofs.Covering.Coarser.{along_coarser, coarser, ends_coarser, key_coarser, keys_coarser, known_either, known_left, known_right, notes_coarser}
 use Rattle.loom_engine.proofs.Covering.Kept.{has_at}
-use Rattle.loom_engine.proofs.Covering.Leading.{given_last, made_more, none_made, one_of_more, the_last}
+use Rattle.loom_engine.proofs.Covering.Leading.{AreMade, ComesTo, given_last, made_more, none_made, one_of_more, the_last}
 use Rattle.loom_engine.proofs.Covering.Between.{at_place}
+use Rattle.loom_engine.proofs.Covering.Lost.{AreLost}
 use Rattle.loom_engine.proofs.Covering.Passing.{IsLost, LeadsAll, Passed, are_lost, is_ready, leads_all, passed_on}
 use Rattle.loom_engine.proofs.Covering.Rounds.{all_passed, body_sound, called_there, covers_all, ended_there, ends_all, fails_there, left_there, never_ends_there, rests_there}
 use Rattle.loom_engine.proofs.Runs.Bodies.{unchosen_law}

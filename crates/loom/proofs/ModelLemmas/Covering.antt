@@ -33,12 +33,12 @@ use Rattle.loom_engine.specs.Runs.Course.{Course, opening}
 use Rattle.loom_engine.specs.Runs.Machine.{further_branches, schedule}
 use Rattle.loom_engine.specs.Trees.Drive.{Trail, at_start, drive, is_used_up}
 use Rattle.loom_engine.specs.Covering.Cut.{cut}
-use Rattle.loom_engine.specs.Covering.UnderWay.{never}
 use Rattle.loom_engine.specs.Trees.Marks.{marking}
 use Rattle.loom_engine.specs.Trees.Meeting.{Settings, whole_search}
 use Rattle.loom_engine.specs.Covering.Kept.{Noted, NotesAs, state_in}
 use Rattle.loom_engine.specs.Covering.UnderWay as under
 use Rattle.loom_engine.proofs.Covering.UnderWay as way
+use Rattle.loom_engine.proofs.Covering.Way.{never}
 use Rattle.loom.proofs.ModelLemmas.Handing.{IsHanded, slice_get_is}
 use Rattle.loom.specs.Model.Cover.{AreNoted, ComesTo, EndsWith, IsAtBranch, IsEndBy, IsEndOf, IsHanding, IsTabled, IsUnderWay, Leaves, LooksUpRun, Meets, Noting, Passes, StaysOpen}
 use Rattle.loom.specs.declared.model.cover.run.Ending.{Ending}
@@ -61,7 +61,7 @@ module _ {D S : Type 0} (next : Meaning D S) (run : Noting D S) where
 
   -- a turn to which the run came
   at_turn : (turn : Turn D) (bodies : List S) (v : Course D) (progress : Progress D) (path : Route) (noted : Noted D S) → ShowsCourse v progress path → IsTabled next run noted path → path.search ≡ whole_search run.room
-      → under.TurnIs run.room (marking None) next run.explores run.max_threads run.max_steps run.body run.path run.old (trail path) (suc v.world.steps_left) bodies v turn
+      → way.TurnIs run.room (marking None) next run.explores run.max_threads run.max_steps run.body run.path run.old (trail path) (suc v.world.steps_left) bodies v turn
       → ComesTo next run (Ok turn) bodies progress path noted
   at_turn (turn.Reply thread answer) bodies v progress path noted shown tables whole at = record { course = v; shown = shown; at = at; tables = tables; whole = whole }
   at_turn (turn.Start thread) bodies v progress path noted shown tables whole at = record { course = v; shown = shown; at = at; tables = tables; whole = whole }
@@ -110,7 +110,7 @@ module _ {D S : Type 0} (next : Meaning D S) (run : Noting D S) where
       pub begins_to : (come : Begun D) → old.state.steps_left ≡ new.state.steps_left + 1 → (v : Course D) → ShowsCourse v new after → drives (begins_at (plain op) h.course) path ≡ (Ok (come, v), trail after) → BegunIs come
       begins_to (begun.Turn turn) steps v shown e =
           at_turn turn all v new after noted shown (tables steps (begun.Turn turn) v shown e) whole_after
-          (subst (λ (n : ℕ). under.TurnIs run.room (marking None) next run.explores run.max_threads run.max_steps run.body run.path run.old (trail after) n all v turn) (one_less steps (begun.Turn turn) v shown e)
+          (subst (λ (n : ℕ). way.TurnIs run.room (marking None) next run.explores run.max_threads run.max_steps run.body run.path run.old (trail after) n all v turn) (one_less steps (begun.Turn turn) v shown e)
           (way.turned_begun run.room (marking None) next run.explores run.max_threads run.max_steps run.body run.path run.old (trail path) h.course.world.steps_left bodies h.course op h.at turn v (trail after) (drawn steps (begun.Turn turn) v shown e)))
       begins_to begun.AtBranch steps v shown e = record {
         course = v;
@@ -161,7 +161,7 @@ module _ {D S : Type 0} (next : Meaning D S) (run : Noting D S) where
           let r = left_of v new after shown in
           let counted : suc h.course.world.steps_left ≡ suc v.world.steps_left = omega (arith, steps) in
           at_turn turn bodies v new after more shown (tabled turn more notes v drawn) (same ∙ h.whole)
-          (subst (λ (n : ℕ). under.TurnIs run.room (marking None) next run.explores run.max_threads run.max_steps run.body run.path run.old (trail after) n bodies v turn) counted
+          (subst (λ (n : ℕ). way.TurnIs run.room (marking None) next run.explores run.max_threads run.max_steps run.body run.path run.old (trail after) n bodies v turn) counted
           (way.turned_on run.room (marking None) next run.explores run.max_threads run.max_steps run.body run.path run.old (trail path) (suc h.course.world.steps_left) bodies h.course h.at turn v (trail after) drawn))
         where
           tabled : (turn : Turn D) (more : Noted D S) → ((is_on path.exploring ≡ true) × (is_used_up (trail path) ≡ true) × NotesAs (state_in noted.never old bodies views) (chosen path) noted more) ⊎ (more ≡ noted) → (v : Course D)

@@ -17,7 +17,7 @@ use Rattle.loom_engine.specs.Path.Nodes.{stored}
 use Rattle.loom_engine.specs.Parts.Cuts.{Part}
 use Rattle.loom_engine.specs.Parts.Floors.{seal_to}
 use Rattle.loom_engine.specs.Parts.Works.{view, Work, Gathers}
-use Rattle.loom_engine.specs.Parts.Slices.{noted_in, Slice, first, further}
+use Rattle.loom_engine.specs.Parts.Slices.{Slice, first, further}
 use Rattle.loom_engine.specs.Parts.Keeping.{part_of, views_onto, views, keys, IsAt, IsCopy, Leaves, GivesBack, KeepsOthers}
 use Rattle.loom_engine.specs.declared.rt.parts.Part.{Part as Kept}
 use Rattle.loom_engine.specs.declared.rt.parts.Parts.{Parts}
@@ -30,7 +30,7 @@ use Rattle.loom_engine.proofs.Parts.Giving.{fronted}
 use Rattle.loom_engine.proofs.Parts.Keeping.{work_steps}
 use Rattle.loom_engine.proofs.Parts.Lasting.{parts_law}
 use Rattle.loom_engine.proofs.Parts.Lists.{bases as bases_of}
-use Rattle.loom_engine.proofs.Parts.Slices.{noted_is, is_noted, slice_law, left_begins}
+use Rattle.loom_engine.proofs.Parts.Slices.{noted_in, noted_is, is_noted, slice_law, left_begins}
 use Rattle.loom_engine.proofs.Parts.Works.{work_law}
 use Rattle.loom.specs.declared.model.builder.Builder.{Builder}
 use Rattle.loom.specs.declared.model.error.CheckError.{CheckError}

@@ -10,7 +10,7 @@ use Rattle.loom_engine.proofs.Walk.Driven.{driven_law}
 use Rattle.loom_views.specs.declared.rt.failure.FailureKind.{FailureKind}
 use Rattle.loom_engine.specs.Covering.World.{World, IsCalled, Ends, IsStopped, IsLimit}
 use Rattle.loom_engine.specs.Covering.Sound.{OffersSame, MeetsSame, Unless, IsSound}
-use Rattle.loom_engine.specs.Covering.Covered.{AreTried, IsGiven, IsEnd, ended, met, Remembers, Covers, CoverLaw}
+use Rattle.loom_engine.specs.Covering.Covered.{AreTried, IsGiven, IsEnd, ended, met, Remembers, Covers}
 
 -- ---- paths that runs left
 
@@ -188,6 +188,12 @@ module _ {A K : Type 0} (limits : FailureKind → Bool) (w v : World A) (key oth
           by (inl s) = absurd (came_well w limits (choices q) value ok s)
           by (inr (inl s)) = inl (stops_limit v limits c x came s)
           by (inr (inr h)) = inr (choices q, value, given, ok, cc (ok, h.1, came))
+
+-- With sound keys the runs of such a search cover each run, and none fails but by a limit. The search is of w, and covers w itself,
+-- and each v whose runs have the same states: so it may be of few operations, and cover runs of many.
+abbrev pub CoverLaw : Type 0 → Type 0 → Type 0
+CoverLaw A K = (limits : FailureKind → Bool) (w v : World A) (key other : List Choice → K) (left : List (List Stored)) (runs : List (List Choice × A)) → Ends w → Ends v
+    → IsSound limits w v key other → Remembers w key left runs → Covers limits w v runs
 
 pub cover_law : {A K : Type 0} → CoverLaw A K
 cover_law limits w v key other left runs ends ends_too sound r = covers limits w v key other left runs ends ends_too sound r

@@ -11,9 +11,13 @@ use Rattle.loom_engine.specs.Covering.World.{World, IsCalled, Ends, IsStopped}
 use Rattle.loom_engine.specs.Covering.Sound.{OffersSame, MeetsSame, Unless, IsSound}
 use Rattle.loom_engine.specs.Covering.Covered.{Remembers}
 use Rattle.loom_engine.specs.Covering.UnderWay.{HasNode}
-use Rattle.loom_engine.specs.Covering.Lost.{AreLost}
 use Rattle.loom_engine.proofs.Covering.Covered.{Tries, called_front, came_well, goes_on, node_called, not_over, path_called, same_some, tried, unstopped}
 use Rattle.loom_engine.proofs.Covering.Ways.{states_same}
+
+-- There is a node of these runs after choices that are lost, and each run that passes it ends in the state after other such choices.
+pub record AreLost {K : Type 0} (key : List Choice → K) (left : List (List Stored)) (IsLost : List Choice → Type 0) : Type 0 where
+  pub nodes : (c : List Choice) → IsLost c → (q : List Stored) × IsOneOf q left × HasNode q c
+  pub met : (q : List Stored) (c : List Choice) → IsOneOf q left → IsLost c → Begins c (choices q) → (d : List Choice) × IsLost d × (key (choices q) ≡ key d)
 
 module _ {A K : Type 0} (limits : FailureKind → Bool) (w v : World A) (key other : List Choice → K) (left : List (List Stored)) (runs : List (List Choice × A)) (ends : Ends w) (ends_too : Ends v) (sound : IsSound limits w v key other) (r : Remembers w key left runs)
     (IsLost : List Choice → Type 0) (lost : AreLost key left IsLost) where

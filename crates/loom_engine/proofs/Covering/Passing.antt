@@ -8,13 +8,13 @@ use Rattle.loom_engine.specs.declared.rt.states.ways.Way.{Way}
 use Rattle.loom_engine.specs.Walk.Path.{IsAtRest, Stored, choices, node_at, step}
 use Rattle.loom_engine.specs.Walk.Driven.{IsLeftBy, IsOneOf}
 use Rattle.loom_engine.specs.Walk.Lists.{Begins}
-use Rattle.loom_engine.specs.Covering.Between.{ComesTo, IsReady, IsWhole, Leads, Linked, Passes, Tracks, straight, through}
-use Rattle.loom_engine.specs.Covering.Lost.{AreLost}
+use Rattle.loom_engine.specs.Covering.Between.{IsReady, IsWhole, Leads, Linked, Passes, Tracks, straight, through}
 use Rattle.loom_engine.specs.Covering.UnderWay.{HasNode}
 use Rattle.loom_engine.specs.Covering.World.{World}
 use Rattle.loom_engine.proofs.Covering.Between.{at_place, within}
 use Rattle.loom_engine.proofs.Covering.Closing.{IsOff, below_off, node_kept, node_stepped, off_apart, off_kept, off_stepped}
-use Rattle.loom_engine.proofs.Covering.Leading.{before_or_last, comes_still}
+use Rattle.loom_engine.proofs.Covering.Leading.{ComesTo, before_or_last, comes_still}
+use Rattle.loom_engine.proofs.Covering.Lost.{AreLost}
 use Rattle.loom_engine.proofs.Covering.UnderWay.{node_within}
 use Rattle.loom_engine.proofs.Covering.Whole.{leads_keeps}
 use Rattle.loom_engine.proofs.Walk.Lists.{chooses_node, node_chooses}

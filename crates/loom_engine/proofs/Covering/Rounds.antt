@@ -12,9 +12,8 @@ use Rattle.loom_engine.specs.Trees.Sound.{IsSoundTree}
 use Rattle.loom_engine.specs.Walk.Path.{IsAtRest, IsResting, Stored, choices, node_at, step}
 use Rattle.loom_engine.specs.Walk.Driven.{IsLeftBy, IsOneOf}
 use Rattle.loom_engine.specs.declared.rt.states.ways.Way.{Way}
-use Rattle.loom_engine.specs.Covering.Between.{AreMade, Leads}
+use Rattle.loom_engine.specs.Covering.Between.{Leads}
 use Rattle.loom_engine.specs.Covering.Covered.{Covers, IsGiven}
-use Rattle.loom_engine.specs.Covering.Lost.{AreLost}
 use Rattle.loom_engine.specs.Covering.Ways.{CanEnd, HasEnded}
 use Rattle.loom_engine.specs.Covering.Cut.{with_run}
 use Rattle.loom_engine.specs.Covering.Kept.{Key}
@@ -23,7 +22,8 @@ use Rattle.loom_engine.specs.Covering.States.{AreLimits, state_after}
 use Rattle.loom_engine.specs.Covering.Table.{IsAlong, Notes, notes_more, notes_none}
 use Rattle.loom_engine.specs.Covering.World.{IsCalled, world_of}
 use Rattle.loom_engine.proofs.Covering.Cut.{in_world, later_rests, passed_to_end, round}
-use Rattle.loom_engine.proofs.Covering.Leading.{have_ways}
+use Rattle.loom_engine.proofs.Covering.Leading.{AreMade, have_ways}
+use Rattle.loom_engine.proofs.Covering.Lost.{AreLost}
 use Rattle.loom_engine.proofs.Covering.Sight.{body_called, body_ends_law, body_lost, seen_body_law}
 use Rattle.loom_engine.proofs.Covering.Table.{table_law}
 use Rattle.loom_engine.proofs.Covering.Worlds.{world_ends}

@@ -27,8 +27,7 @@ use Rattle.loom_engine.specs.Walk.Path.{Stored, node_at}
 use Rattle.loom_objects.specs.declared.choice.Choice.{Choice}
 use Rattle.loom_engine.proofs.Covering.Covered.{node_called}
 use Rattle.loom_engine.proofs.Covering.Cut.{check_law, remembers}
-use Rattle.loom_engine.specs.Covering.Lost.{AreLost}
-use Rattle.loom_engine.proofs.Covering.Lost.{never_ends}
+use Rattle.loom_engine.proofs.Covering.Lost.{AreLost, never_ends}
 use Rattle.loom_engine.proofs.Covering.Points.{points_law, yields_law}
 use Rattle.loom_engine.proofs.Covering.Seen.{alike_self, turn_law}
 use Rattle.loom_engine.proofs.Covering.States.{states_law}

@@ -42,7 +42,7 @@ use Rattle.loom_engine.specs.Covering.Parts.{IsEnded, LeadsOn, StayThere, TurnsO
 use Rattle.loom_engine.specs.Covering.Sight.{seen_by}
 use Rattle.loom_engine.specs.Covering.States.{seen_in, state_of}
 use Rattle.loom_engine.specs.Covering.Table.{HasState, IsAlong}
-use Rattle.loom_engine.specs.Covering.UnderWay.{HasNode, IsLed, IsOpen, LeadsUncut, StoodAt, after_begun, never, onward}
+use Rattle.loom_engine.specs.Covering.UnderWay.{HasNode, IsLed, IsOpen, LeadsUncut, StoodAt, after_begun, onward}
 use Rattle.loom_engine.specs.Covering.UnderWay as under
 use Rattle.loom_engine.proofs.Covering.Begun.{beginning_law}
 use Rattle.loom_engine.proofs.Covering.Handing.{handing_law}
@@ -55,7 +55,7 @@ use Rattle.loom_engine.proofs.Covering.Unfolding.{bound}
 use Rattle.loom_engine.proofs.Walk.Lists.{node_chooses, node_on as on_path, not_longer}
 use Rattle.loom_engine.proofs.Runs.Closing.{HasEnded, schedule_open}
 use Rattle.loom_engine.proofs.Trees.Retracing.{begins_front, begins_long, begins_on, keeps}
-use Rattle.loom_engine.proofs.Covering.Way.{it_was, just_at, way_begins, way_ends, way_fails, way_on, way_same, way_stops}
+use Rattle.loom_engine.proofs.Covering.Way.{it_was, just_at, never, way_begins, way_ends, way_fails, way_on, way_same, way_stops}
 
 -- ---- lists of states
 
@@ -178,8 +178,11 @@ module _ {D S : Type 0} (room : ℕ) (adds : Marking) (next : Meaning D S) (expl
   abbrev AtBranch : Trail → ℕ → List S → Course D → Type 0
   AtBranch path left bodies c = under.AtBranch room adds next explores max_threads max_steps body p old path left bodies c
 
-  abbrev TurnIs : Trail → ℕ → List S → Course D → Turn D → Type 0
-  TurnIs path left bodies c turn = under.TurnIs room adds next explores max_threads max_steps body p old path left bodies c turn
+  -- what comes of a turn: the next one, or the run's end
+  abbrev pub TurnIs : Trail → ℕ → List S → Course D → Turn D → Type 0
+  TurnIs path left bodies c (turn.Reply thread answer) = AtTurn path left bodies c thread answer
+  TurnIs path left bodies c (turn.Start thread) = AtTurn path left bodies c thread reply.Start
+  TurnIs path left bodies c (turn.Ended value) = drive (whole_search room) adds (cut never [] tree) (at_start p) ≡ (Ok (Some value), path)
 
   -- what was noted before, or at a node of the path
   abbrev IsOfBefore : Trail → List Choice → Type 0

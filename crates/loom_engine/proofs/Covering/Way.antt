@@ -15,7 +15,7 @@ use Rattle.loom_engine.specs.Trees.Retracing.{standing_at}
 use Rattle.loom_engine.specs.Runs.Body.{Meaning}
 use Rattle.loom_engine.specs.Covering.Cut.{cut, onward, passed}
 use Rattle.loom_engine.specs.Covering.Moments.{Stand, stand_after}
-use Rattle.loom_engine.specs.Covering.UnderWay.{IsOpen, LeadsUncut, Way, never}
+use Rattle.loom_engine.specs.Covering.UnderWay.{IsOpen, LeadsUncut, Way}
 use Rattle.loom_engine.proofs.Covering.Nodes.{nodes_law}
 use Rattle.loom_engine.proofs.Covering.Parts.{ClosesGive, not_both, same_path}
 use Rattle.loom_engine.proofs.Covering.Retraced.{Cuts, cuts}
@@ -26,6 +26,10 @@ use Rattle.loom_engine.proofs.Trees.Retracing.{Keeps, begins_less, keeps}
 use Rattle.loom_engine.proofs.Walk.Lists.{not_longer}
 
 -- ---- tests of choices
+
+-- nowhere
+abbrev pub never : List Choice → Bool
+never c = false
 
 -- just after these choices
 abbrev pub just_at : List Choice → List Choice → Bool

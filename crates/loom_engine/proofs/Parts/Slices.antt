@@ -18,10 +18,25 @@ use Rattle.loom_engine.proofs.Walk.Together.{TwoBeginnings, within, past, two_be
 use Rattle.loom_engine.specs.Parts.Cuts.{Part, IsBelow}
 use Rattle.loom_engine.specs.Parts.Floors.{step_above}
 use Rattle.loom_engine.specs.Parts.Works.{IsNotedIn, Gathers, Work, one_run, last_run}
-use Rattle.loom_engine.specs.Parts.Slices.{pending_of, noted_at, noted_in, Slice, first, further, Ended, at_once, after, SliceLaw}
+use Rattle.loom_engine.specs.Parts.Slices.{Slice, first, further, Ended, at_once, after, SliceLaw}
 use Rattle.loom_engine.proofs.Parts.Lists.{in_front, in_back, in_either}
 use Rattle.loom_engine.proofs.Parts.Lows.{steps_above, low_same, take_same, take_begins, below_length, noted_same}
 use Rattle.loom_engine.proofs.Parts.Works.{order_of}
+
+-- the options that are to be tried
+abbrev pub pending_of : (Choice → Status) → List Choice → List Choice
+pending_of status [] = []
+pending_of status (o ∷ os) = elim (status o) [ Pending ↦ o ∷ pending_of status os | _ ↦ pending_of status os ]
+
+-- what is noted at a schedule, after these choices
+abbrev pub noted_at : List Choice → Stored → List (List Choice)
+noted_at before n = cond (n.made.exploring && is_thread n.made.default) (map (λ o. before ++ o ∷ []) (pending_of n.status n.made.options)) []
+
+-- and at the first nodes of a path, so many of them
+abbrev pub noted_in : List Choice → ℕ → List Stored → List (List Choice)
+noted_in before zero p = []
+noted_in before (suc k) [] = []
+noted_in before (suc k) (n ∷ p) = noted_at before n ++ noted_in (before ++ n.present ∷ []) k p
 
 -- lists of options
 pub data IsKey (before : List Choice) (os : List Choice) (k : List Choice) : Type 0 where

@@ -18,8 +18,8 @@ use Rattle.loom_engine.specs.declared.rt.path.node.Status.{Status}
 use Rattle.loom_engine.specs.declared.rt.path.node.Status.TheVariants.{Disabled, Skip, Yield, Pending, Active, Visited}
 use Rattle.loom_engine.specs.declared.rt.path.node.Node.{Node}
 use Rattle.loom_engine.specs.declared.rt.path.node.Node.TheVariants as node
-use Rattle.loom_engine.specs.Path.Nodes.{ability_of, state_of, state_at, thread_state, active_thread, is_active, seen_threads, in_turn, IsWell}
-use Rattle.loom_engine.specs.Path.WellFormed.{is_tried, is_marked, is_at, is_well_formed_schedule, is_well_formed_spurious, is_well_formed_from, IsWellFormed, IsSettled, WellFormedLaw, AreWellFormed, AreAtRest}
+use Rattle.loom_engine.specs.Path.Nodes.{ability_of, state_of, state_at, thread_state, active_thread, is_active, seen, seen_threads, in_turn, IsWell}
+use Rattle.loom_engine.specs.Path.WellFormed.{is_tried, is_marked, is_at, is_well_formed_schedule, is_well_formed_spurious, is_well_formed_from, IsWellFormed, AreWellFormed, AreAtRest}
 use Rattle.loom_engine.specs.Path.Nodes.{AreWell}
 use Rattle.loom_engine.specs.Path.Route.{stored}
 use Rattle.loom_engine.proofs.Nodes.Nodes.Statuses.{active_is, state_there, first_is}
@@ -515,6 +515,10 @@ schedule_formed : (first : Option ℕ) (exploring : Bool) (ss : List Status) →
 schedule_formed None exploring ss five rest f = absurd (f refl)
 schedule_formed (Some f) exploring ss five rest g = rests_formed f exploring ss rest five
 
+-- What a well-formed node is to a walk: at rest, with a default.
+abbrev pub IsSettled : Node → Type 0
+IsSettled n = IsWell n × IsAtRest (seen n) × ((seen n).made.default ≢ Thread None)
+
 pub formed_resting : (n : Node) → IsWellFormed n → IsSettled n
 formed_resting (node.Schedule n) w = schedule_resting n.first n.exploring n.statuses w
 formed_resting (node.Load n) w =
@@ -538,9 +542,6 @@ resting_formed (node.Load n) r =
     (or_true n.exploring _ (λ e.
     eq-eqb n.position 0 (lowest_first n.readable 0 n.position r.0.0 (load_fixed n.exploring (slots n.readable) n.position (omega (arith, r.0.0)) r.1 e))))
 resting_formed (node.Spurious n) r = spurious_formed n.exploring n.answer (λ e. (r.1.fixed e).0)
-
-pub well_formed_law : WellFormedLaw
-well_formed_law n = (formed_resting n, resting_formed n)
 
 -- ---- paths
 

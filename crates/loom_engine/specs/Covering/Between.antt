@@ -4,9 +4,6 @@ use Rattle.std.specs.List.{Contains}
 use Rattle.loom_objects.specs.declared.choice.Choice.{Choice}
 use Rattle.loom_engine.specs.declared.rt.states.ways.Way.{Way}
 use Rattle.loom_engine.specs.Walk.Path.{Stored, choices}
-use Rattle.loom_engine.specs.Walk.Driven.{IsOneOf}
-use Rattle.loom_engine.specs.Covering.World.{World}
-use Rattle.loom_engine.specs.Covering.Ways.{HasEnded}
 
 -- The ways that runs went, and the states that the last run passed.
 pub record Tracks : Type 0 where
@@ -106,25 +103,6 @@ pub record EndsAt {K : Type 0} (key : List Choice → K) (led_by : List (List Ch
   pub there : List Choice
   pub led : slice_get led_by number ≡ Some there
   pub same : key (choices q) ≡ key there
-
-module _ {A K : Type 0} (w : World A) (key : List Choice → K) (left : List (List Stored)) (runs : List (List Choice × A)) (led_by : List (List Choice)) where
-  -- the run that left this path ended, or was cut off in the state of this number
-  abbrev pub ComesTo : List Stored → Option ℕ → Type 0
-  ComesTo q None = HasEnded w key left runs q
-  ComesTo q (Some number) = EndsAt key led_by q number
-
-  -- it is a way of a run that was made
-  pub record IsMade (way : Way) : Type 0 where
-    pub path : List Stored
-    pub is_one : IsOneOf path left
-    pub to : Option ℕ
-    pub comes : ComesTo path to
-    pub of_run : IsOfRun led_by (choices path) to way
-
-  -- each run that was made came somewhere, and each of the ways is one of theirs
-  pub record AreMade (ways : List Way) : Type 0 where
-    pub each : (way : Way) → Contains ways way → IsMade way
-    pub all : (q : List Stored) → IsOneOf q left → (to : Option ℕ) × ComesTo q to
 
 module _ (ways : List Way) (count : ℕ) where
   -- the first state from which no way leads to a run's end, if there is one

@@ -6,8 +6,7 @@ use Rattle.loom_engine.specs.Walk.Lists.{Begins}
 use Rattle.loom_engine.specs.Walk.Path.{Skip, Stored, choices, node_at, IsAtRest}
 use Rattle.loom_engine.specs.Walk.Driven.{IsOneOf, ToBeTried}
 use Rattle.loom_views.specs.declared.rt.failure.FailureKind.{FailureKind}
-use Rattle.loom_engine.specs.Covering.World.{World, IsCalled, Ends, IsLimit}
-use Rattle.loom_engine.specs.Covering.Sound.{IsSound}
+use Rattle.loom_engine.specs.Covering.World.{World, IsCalled, IsLimit}
 
 -- the run with these choices and this value is one of them
 abbrev pub IsGiven : {A : Type 0} → List Choice → A → List (List Choice × A) → Type 0
@@ -44,9 +43,3 @@ module _ {A K : Type 0} (w : World A) (key : List Choice → K) (left : List (Li
 abbrev pub Covers : {A : Type 0} → (FailureKind → Bool) → World A → World A → List (List Choice × A) → Type 0
 Covers {A} limits w v runs = (c : List Choice) (r : Result A FailureKind) → IsCalled v c → v.outcome c ≡ Some r
     → IsLimit limits r ⊎ ((made : List Choice) × (value : A) × IsGiven made value runs × (w.outcome made ≡ Some (Ok value)) × (r ≡ Ok value))
-
--- With sound keys the runs of such a search cover each run, and none fails but by a limit. The search is of w, and covers w itself,
--- and each v whose runs have the same states: so it may be of few operations, and cover runs of many.
-abbrev pub CoverLaw : Type 0 → Type 0 → Type 0
-CoverLaw A K = (limits : FailureKind → Bool) (w v : World A) (key other : List Choice → K) (left : List (List Stored)) (runs : List (List Choice × A)) → Ends w → Ends v
-    → IsSound limits w v key other → Remembers w key left runs → Covers limits w v runs

@@ -6,9 +6,7 @@ use Rattle.loom_views.specs.Laws.Moves.{Leads}
 use Rattle.loom_views.specs.Views.{opening as first_points}
 use Rattle.loom_objects.specs.declared.choice.Choice.{Choice}
 use Rattle.loom_objects.specs.declared.operation.Reply.{Reply}
-use Rattle.loom_objects.specs.declared.operation.Reply.TheVariants as reply
 use Rattle.loom_objects.specs.declared.operation.Turn.{Turn}
-use Rattle.loom_objects.specs.declared.operation.Turn.TheVariants as turn
 use Rattle.loom_objects.specs.Operation.Labelled.{Op}
 use Rattle.loom_objects.specs.Operation.Plain.{plain, started}
 use Rattle.loom_objects.specs.Tree.Tree.{Tree, Gives, ◌>>=◌}
@@ -29,10 +27,6 @@ use Rattle.loom_engine.specs.Covering.Parts.{StayThere, on_begun}
 use Rattle.loom_engine.specs.Covering.Sight.{seen_by}
 use Rattle.loom_engine.specs.Covering.States.{state_after}
 use Rattle.loom_engine.specs.Covering.Table.{IsAlong}
-
--- nowhere
-abbrev pub never : List Choice → Bool
-never c = false
 
 -- nowhere before these choices
 abbrev pub IsOpen : (List Choice → Bool) → List Choice → Type 0
@@ -128,12 +122,6 @@ module _ {D S : Type 0} (room : ℕ) (adds : Marking) (next : Meaning D S) (expl
     pub since : List Choice
     pub way : IsOnWay path (schedule further_branches c >>= onward next left bodies) (settled next last since (Gives (at_branch left bodies c)))
     pub led : IsLed c
-
-  -- what comes of a turn: the next one, or the run's end
-  abbrev pub TurnIs : Trail → ℕ → List S → Course D → Turn D → Type 0
-  TurnIs path left bodies c (turn.Reply thread answer) = AtTurn path left bodies c thread answer
-  TurnIs path left bodies c (turn.Start thread) = AtTurn path left bodies c thread reply.Start
-  TurnIs path left bodies c (turn.Ended value) = drive (whole_search room) adds (cut never [] tree) (at_start p) ≡ (Ok (Some value), path)
 
   -- the run has left the path and what was noted so: it ended with this, or was cut off, as one with a table
   abbrev pub Leaves : Result (Option D) FailureKind → Trail → Noted D S → Type 0

@@ -1,28 +1,13 @@
 -- Slices: some runs of a part in a row, after which it is looked once what they noted.
-use Rattle.std.specs.Prelude.{ℕ, zero, suc, ◌≡◌, cond, ◌&&◌, List, [], ◌∷◌, ◌++◌, map, take, length, Some, None}
+use Rattle.std.specs.Prelude.{ℕ, ◌≡◌, List, [], ◌∷◌, ◌++◌, take, length, Some, None}
 use Rattle.loom_objects.specs.declared.choice.Choice.{Choice}
-use Rattle.loom_engine.specs.Walk.Machine.{Machine, is_thread}
+use Rattle.loom_engine.specs.Walk.Machine.{Machine}
 use Rattle.loom_engine.specs.Walk.Sound.{IsMachine}
-use Rattle.loom_engine.specs.Walk.Path.{Status, Pending, Stored, after_run}
+use Rattle.loom_engine.specs.Walk.Path.{Stored, after_run}
 use Rattle.loom_engine.specs.Walk.Walks.{run_of}
 use Rattle.loom_engine.specs.Parts.Cuts.{Part}
 use Rattle.loom_engine.specs.Parts.Floors.{step_above}
 use Rattle.loom_engine.specs.Parts.Works.{Gathers, Work}
-
--- the options that are to be tried
-abbrev pub pending_of : (Choice → Status) → List Choice → List Choice
-pending_of status [] = []
-pending_of status (o ∷ os) = elim (status o) [ Pending ↦ o ∷ pending_of status os | _ ↦ pending_of status os ]
-
--- what is noted at a schedule, after these choices
-abbrev pub noted_at : List Choice → Stored → List (List Choice)
-noted_at before n = cond (n.made.exploring && is_thread n.made.default) (map (λ o. before ++ o ∷ []) (pending_of n.status n.made.options)) []
-
--- and at the first nodes of a path, so many of them
-abbrev pub noted_in : List Choice → ℕ → List Stored → List (List Choice)
-noted_in before zero p = []
-noted_in before (suc k) [] = []
-noted_in before (suc k) (n ∷ p) = noted_at before n ++ noted_in (before ++ n.present ∷ []) k p
 
 -- some runs of the path p with this floor, the newest first, and the path that they lead to
 pub data Slice (m : Machine) (k : ℕ) (p : List Stored) : List (List Choice) → List Stored → Type 0 where

@@ -1,5 +1,5 @@
 -- A node between two runs, as its fields say it, and what a node is without its notes.
-use Rattle.std.specs.Prelude.{ℕ, ◌≡◌, ◌≢◌, Bool, true, false, ◌&&◌, ◌||◌, not, ◌==◌, ◌↔◌, nat_lt, List, [], ◌∷◌, ◌++◌, ◌+◌, length, count_by, slice_get, map, Option, Some, None, option_map, unwrap_or, IsTrue}
+use Rattle.std.specs.Prelude.{ℕ, ◌≡◌, ◌≢◌, Bool, true, false, ◌&&◌, ◌||◌, not, ◌==◌, nat_lt, List, [], ◌∷◌, ◌++◌, ◌+◌, length, count_by, slice_get, map, Option, Some, None, option_map, unwrap_or, IsTrue}
 use Rattle.loom_objects.specs.declared.choice.Choice.TheVariants.{Thread}
 use Rattle.loom_objects.specs.Tree.Stores.{slots}
 use Rattle.loom_engine.specs.Walk.Path.{Stored, IsAtRest}
@@ -8,7 +8,7 @@ use Rattle.loom_engine.specs.declared.rt.path.node.Status.TheVariants.{Disabled,
 use Rattle.loom_engine.specs.declared.rt.path.node.Node.{Node}
 use Rattle.loom_engine.specs.declared.rt.path.node.Node.TheVariants as node
 use Rattle.loom_engine.specs.declared.rt.path.node.Schedule.{Schedule}
-use Rattle.loom_engine.specs.Path.Nodes.{seen, is_active, IsWell}
+use Rattle.loom_engine.specs.Path.Nodes.{is_active}
 use Rattle.loom_engine.specs.Path.Route.{Route}
 
 -- the thread is the choice, or was tried
@@ -64,13 +64,6 @@ IsWellFormed n = IsTrue (is_well_formed n)
 abbrev pub AreWellFormed : List Node → Type 0
 AreWellFormed [] = Unit {0}
 AreWellFormed (n ∷ nodes) = IsWellFormed n × AreWellFormed nodes
-
--- What a well-formed node is to a walk: at rest, with a default.
-abbrev pub IsSettled : Node → Type 0
-IsSettled n = IsWell n × IsAtRest (seen n) × ((seen n).made.default ≢ Thread None)
-
-abbrev pub WellFormedLaw : Type 0
-WellFormedLaw = (n : Node) → IsWellFormed n ↔ IsSettled n
 
 -- each of these nodes is at rest, and has a default
 abbrev pub AreAtRest : List Stored → Type 0
