@@ -27,10 +27,19 @@ use Rattle.loom.specs.Model.Run.{IsEndBy, IsEndOf, Outcome, RunsAlong}
 use Rattle.loom_explain.specs.declared.event.Event.{Event}
 use Rattle.loom.specs.Explain.Story.{Story, begins_with, by_body, event_of, goes_on, hands_over, nothing_more, story, story_of}
 use Rattle.loom.specs.Model.Listening.{HasHeard, HasHeardOne}
-use Rattle.loom.specs.Model.Turns.{ComesToTurn, EndsWith, IsHeardAs, IsUnderWay, behind}
+use Rattle.loom.specs.Model.Turns.{EndsWith, IsHeardAs, IsUnderWay, behind}
 use Rattle.loom.specs.declared.model.run.Ending.{Ending}
 use Rattle.loom.specs.declared.model.run.Ending.TheVariants.{Ended, Failed}
 use Rattle.loom.proofs.ExplainLemmas.Story.{story_law}
+
+module _ {D S : Type 0} (next : Meaning D S) (whole : Story D) where
+  -- the next turn of a run under way, when these events were heard
+  abbrev pub ComesToTurn : Result (Turn D) Stop → List Event → List S → Progress D → Route → Type 0
+  ComesToTurn (Ok (turn.Reply thread answer)) events bodies run path = IsUnderWay next whole events bodies run path thread answer
+  ComesToTurn (Ok (turn.Start thread)) events bodies run path = IsUnderWay next whole events bodies run path thread reply.Start
+  ComesToTurn (Ok (turn.Ended value)) events bodies run path = whole ≡ record { events = events; comes = (Ok value, trail path) }
+  ComesToTurn (Err (Because failure)) events bodies run path = whole ≡ record { events = events; comes = (Err failure.kind, trail path) }
+  ComesToTurn (Err Memory) events bodies run path = Unit {0}
 
 -- an event goes from the rest of a story to what was told
 told_one_more : {D : Type 0} (events : List Event) (event : Event) (rest : Story D) → behind (events ++ event ∷ []) rest ≡ behind events (begins_with event rest)

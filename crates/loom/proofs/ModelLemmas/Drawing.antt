@@ -21,9 +21,9 @@ use Rattle.loom.specs.declared.model.run.Ending.{Ending}
 use Rattle.loom.specs.Explain.Story.{Story, story_of}
 use Rattle.loom.specs.Model.Listening.{HasHeard}
 use Rattle.loom.specs.Model.Run.{IsEndBy, IsEndOf}
-use Rattle.loom.specs.Model.Turns.{ComesToTurn, IsHeardAs, IsUnderWay}
+use Rattle.loom.specs.Model.Turns.{IsHeardAs, IsUnderWay}
 use Rattle.loom.specs.Model.Walking.{EndsSo, RunsDrawn}
-use Rattle.loom.proofs.ExplainLemmas.Turning.{ended_so, heard_along, hears_one, stopped_so}
+use Rattle.loom.proofs.ExplainLemmas.Turning.{ComesToTurn, ended_so, heard_along, hears_one, stopped_so}
 use Rattle.loom.proofs.ModelLemmas.Handing.{IsHanded}
 
 -- nobody hears the run

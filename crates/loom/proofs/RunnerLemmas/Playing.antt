@@ -21,14 +21,14 @@ use Rattle.loom_engine.specs.Runs.Machine.{submit}
 use Rattle.loom_explain.specs.declared.event.Event.{Event}
 use Rattle.loom.specs.Explain.Story.{Story, event_of, story_of}
 use Rattle.loom.specs.Model.Run.{IsEndBy, RunsAlong}
-use Rattle.loom.specs.Model.Turns.{ComesToTurn, IsUnderWay}
+use Rattle.loom.specs.Model.Turns.{IsUnderWay}
 use Rattle.loom.specs.declared.model.run.Ending.{Ending}
 use Rattle.loom.specs.declared.model.run.Ending.TheVariants.{Ended, Failed}
 use Rattle.loom.specs.declared.runner.history.event.Event.{Event as RunEvent}
 use Rattle.loom.specs.Runner.Histories.{Leads, Moment, active_at, ended_by, first, moment, passed_at}
 use Rattle.loom.specs.Runner.Recorded.{Function, Word, begun_by, by_function, runs_by, spawned, tells}
 use Rattle.loom.specs.Runner.Recording.{EndsThere, HandsOver, HasRun, LeadsTo}
-use Rattle.loom.proofs.ExplainLemmas.Turning.{comes, driven}
+use Rattle.loom.proofs.ExplainLemmas.Turning.{ComesToTurn, comes, driven}
 use Rattle.loom.proofs.ModelLemmas.Handing.{IsHanded, before_the_end}
 use Rattle.loom.proofs.RunnerLemmas.Leading.{last_snoc, leads_snoc}
 use Rattle.loom.proofs.RunnerLemmas.Recorded.{plain_starting, started_starting}

@@ -42,13 +42,13 @@ use Rattle.loom.specs.Runner.Made.{Made}
 use Rattle.loom.specs.Runner.Recorded.{AreDone, FindsRecorded, Function, HasMade, MayHaveMade, Word, by_function, runs_by}
 use Rattle.loom.specs.Runner.RecordedWorkers.{ArePlayed, IsKnownAbove, IsPlayed, TakesKnown}
 use Rattle.loom.specs.Runner.Recording.{Answers, EndsAbove, IsKnownRun, IsTrueOf, MakesRun, Records, RecordsMore}
-use Rattle.loom.specs.Runner.Workers.{AreHandedOut, EachMayBeWorkedOn, IsAtMost, TakesBack}
+use Rattle.loom.specs.Runner.Workers.{AreHandedOut, IsAtMost, TakesBack}
 use Rattle.loom.proofs.ModelLemmas.Parts.{IsWorking, working_ends, working_fails, working_on, working_start, working_stops}
 use Rattle.loom.proofs.RunnerLemmas.Finding.{HasCome, come_cut, come_further, finds_complete, finds_failed, finds_stopped}
 use Rattle.loom.proofs.RunnerLemmas.Real.{done_behind, done_first, made_all}
 use Rattle.loom.proofs.RunnerLemmas.RecordedParts.{above_comes, above_rests}
 use Rattle.loom.proofs.RunnerLemmas.Turns.{turn_may_be_taken}
-use Rattle.loom.proofs.RunnerLemmas.Workers.{gone_nowhere}
+use Rattle.loom.proofs.RunnerLemmas.Workers.{EachMayBeWorkedOn, gone_nowhere}
 
 -- a run may begin with the path of a part
 pub part_begins : (b : Builder) (path : Route) (part : Part) → path ≡ at_rest (search_of b) (explores b) part.path.nodes → IsAtStart path.explores path

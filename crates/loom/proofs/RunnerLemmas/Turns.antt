@@ -20,9 +20,9 @@ use Rattle.loom.specs.declared.runner.parallel.round.Turn.{Turn}
 use Rattle.loom.specs.Model.Fresh.{machine}
 use Rattle.loom.specs.Model.Settings.{search_of}
 use Rattle.loom.specs.Runner.Parallel.{HasGoneOn}
-use Rattle.loom.specs.Runner.Workers.{AreHandedOut, AreWorkedOn, EachMayBeWorkedOn, TakesBack, TakesTurn, IsAtMost, AreAtMost, bases, HasRoom, IsOut, AreOut, HasTaken, IsTaken}
+use Rattle.loom.specs.Runner.Workers.{AreHandedOut, AreWorkedOn, TakesBack, TakesTurn, IsAtMost, AreAtMost, bases, HasRoom, IsOut, AreOut, HasTaken, IsTaken}
 use Rattle.loom_engine.proofs.Parts.Giving.{bases_once}
-use Rattle.loom.proofs.RunnerLemmas.Workers.{may_each, outs, bases_apart, is_machine, out_front, member_front, member_last, once_front, at_most_front, still_out, still_lost, HasLost, lost_out, lost_fails, gone_nowhere, gone_further, one_back}
+use Rattle.loom.proofs.RunnerLemmas.Workers.{EachMayBeWorkedOn, may_each, outs, bases_apart, is_machine, out_front, member_front, member_last, once_front, at_most_front, still_out, still_lost, HasLost, lost_out, lost_fails, gone_nowhere, gone_further, one_back}
 
 module _ {G V D : Type 0} (takes : V → List Choice → D → V → Type 0) (is_new : V → Type 0) (joins : G → V → G → Type 0) (b : Builder) (tree : Tree D) (made : List (List Choice)) (old : G) where
   pub record IsTaking (parts : Parts) (mid : G) (turn : Turn) (rest : List (Done V)) : Type 0 where

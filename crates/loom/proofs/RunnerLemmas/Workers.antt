@@ -43,7 +43,7 @@ use Rattle.loom.specs.Model.Fresh.{machine}
 use Rattle.loom.specs.Model.Parts.{HasMade, HasLed, HasFailed as HasFailedIn}
 use Rattle.loom.specs.Model.Settings.{search_of}
 use Rattle.loom.specs.Runner.Parallel.{AreJoined, none, one_more, FailsSo, HasGoneOn}
-use Rattle.loom.specs.Runner.Workers.{AreHandedOut, CameTo, IsWorkedOn, AreWorkedOn, MayBeWorkedOn, EachMayBeWorkedOn, IsAtMost, AreAtMost, bases, IsOut, AreOut}
+use Rattle.loom.specs.Runner.Workers.{AreHandedOut, CameTo, IsWorkedOn, AreWorkedOn, MayBeWorkedOn, IsAtMost, AreAtMost, bases, IsOut, AreOut}
 
 -- ---- handed out
 
@@ -65,6 +65,14 @@ worked_each takes b tree (j ∷ jobs) (x ∷ list) e f = (
   (let z = f 0 x (omega arith) in subst (λ (y : Job _). IsWorkedOn takes b tree y x) (sym (z.1 j)) z.2),
   worked_each takes b tree jobs list (omega arith) (λ i d l. f (suc i) d (omega (arith, l))),
 )
+
+module _ {V D : Type 0} (takes : V → List Choice → D → V → Type 0) (b : Builder) (tree : Tree D) where
+  -- each part was worked on, or no run of it was made
+  abbrev pub EachMayBeWorkedOn : List (Job V) → List (Done V) → Type 0
+  EachMayBeWorkedOn [] [] = Unit {0}
+  EachMayBeWorkedOn [] (done ∷ later) = ⊥
+  EachMayBeWorkedOn (job ∷ jobs) [] = ⊥
+  EachMayBeWorkedOn (job ∷ jobs) (done ∷ later) = MayBeWorkedOn takes b tree job done × EachMayBeWorkedOn jobs later
 
 -- where each was worked on each may have been
 pub may_each : {V D : Type 0} (takes : V → List Choice → D → V → Type 0) (b : Builder) (tree : Tree D) (jobs : List (Job V)) (list : List (Done V)) → AreWorkedOn takes b tree jobs list

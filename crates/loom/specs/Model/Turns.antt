@@ -1,12 +1,7 @@
 -- A run under way, and what its listener has heard: its story so far, and how that goes on.
-use Rattle.std.specs.Prelude.{ℕ, suc, ◌≡◌, ⊤, List, ◌++◌, Result, Ok, Err}
+use Rattle.std.specs.Prelude.{ℕ, suc, ◌≡◌, ⊤, List, ◌++◌, Ok, Err}
 use Rattle.loom_objects.specs.Operation.Labelled.{Op}
-use Rattle.loom_objects.specs.declared.failure.Stop.{Stop}
-use Rattle.loom_objects.specs.declared.failure.Stop.TheVariants.{Failure as Because, Memory}
 use Rattle.loom_objects.specs.declared.operation.Reply.{Reply}
-use Rattle.loom_objects.specs.declared.operation.Reply.TheVariants as reply
-use Rattle.loom_objects.specs.declared.operation.Turn.{Turn}
-use Rattle.loom_objects.specs.declared.operation.Turn.TheVariants as turn
 use Rattle.loom_engine.specs.declared.rt.execution.Progress.{Progress}
 use Rattle.loom_engine.specs.Execution.{ShowsCourse}
 use Rattle.loom_engine.specs.Path.Route.{Route, trail}
@@ -29,14 +24,6 @@ module _ {D S : Type 0} (next : Meaning D S) (whole : Story D) where
     pub course : Course D
     pub shown : ShowsCourse course run path
     pub rest : behind events (story path.search next (suc course.world.steps_left) bodies course (trail path) thread answer) ≡ whole
-
-  -- the next turn of such a run, when these events were heard
-  abbrev pub ComesToTurn : Result (Turn D) Stop → List Event → List S → Progress D → Route → Type 0
-  ComesToTurn (Ok (turn.Reply thread answer)) events bodies run path = IsUnderWay events bodies run path thread answer
-  ComesToTurn (Ok (turn.Start thread)) events bodies run path = IsUnderWay events bodies run path thread reply.Start
-  ComesToTurn (Ok (turn.Ended value)) events bodies run path = whole ≡ record { events = events; comes = (Ok value, trail path) }
-  ComesToTurn (Err (Because failure)) events bodies run path = whole ≡ record { events = events; comes = (Err failure.kind, trail path) }
-  ComesToTurn (Err Memory) events bodies run path = Unit {0}
 
 -- the story has these events, and the run ends so, and leaves the path so
 abbrev pub EndsWith : {D : Type 0} → Story D → List Event → Ending D → Route → Type 0

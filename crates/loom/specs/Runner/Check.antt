@@ -18,7 +18,7 @@ use Rattle.loom_engine.specs.Trees.Meeting.{Settings}
 use Rattle.loom.specs.declared.model.builder.Builder.{Builder}
 use Rattle.loom.specs.declared.model.report.Report.{Report}
 use Rattle.loom.specs.declared.model.report.Report.TheVariants as report
-use Rattle.loom.specs.Model.Check.{StopsBy, gives_file, runs_in}
+use Rattle.loom.specs.Model.Check.{StopsBy, runs_in}
 use Rattle.loom.specs.Model.Settings.{explores, search_of}
 use Rattle.loom.specs.Model.StoredText.{IsTextOf, ReadsAs}
 use Rattle.loom.specs.declared.runner.stop.Stop.{Stop}
@@ -143,10 +143,6 @@ module _ {D F V : Type 0} (called : F → Teller D → Result D Stop → F → T
   -- what a report says where no store is, and no time passes
   abbrev pub ReportsUnsaved : F → V → V → Report → Type 0
   ReportsUnsaved f v v' report = Reports f v v' (λ text. text ≡ None) (λ text. Unit {0}) (λ time. time ≡ record { secs = 0; nanos = 0 }) report
-
-  -- and where the checkpoint file is the store, if one is named, of which nothing is known
-  abbrev pub ReportsAlone : F → V → V → Report → Type 0
-  ReportsAlone f v v' report = Reports f v v' (gives_file b.checkpoint_file) (λ text. Unit {0}) (λ time. time ≡ record { secs = 0; nanos = 0 }) report
 
 -- ---- checks one after another
 

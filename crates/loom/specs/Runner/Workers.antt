@@ -50,13 +50,6 @@ module _ {V D : Type 0} (takes : V → List Choice → D → V → Type 0) (b : 
   abbrev pub MayBeWorkedOn : Job V → Done V → Type 0
   MayBeWorkedOn job done = (done.part.base.items ≡ job.part.base.items) × ((done.worked ≡ Ok (Made 0)) ⊎ CameTo job done done.worked)
 
-  -- each of them, or not
-  abbrev pub EachMayBeWorkedOn : List (Job V) → List (Done V) → Type 0
-  EachMayBeWorkedOn [] [] = Unit {0}
-  EachMayBeWorkedOn [] (done ∷ later) = ⊥
-  EachMayBeWorkedOn (job ∷ jobs) [] = ⊥
-  EachMayBeWorkedOn (job ∷ jobs) (done ∷ later) = MayBeWorkedOn job done × EachMayBeWorkedOn jobs later
-
 -- none made more runs than this
 abbrev pub IsAtMost : ℕ → Result Worked CheckError → Type 0
 IsAtMost most (Ok (Made count)) = count ≤ most
