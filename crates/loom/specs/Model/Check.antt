@@ -1,6 +1,7 @@
 -- What a check promises: what a report says of a body's runs, and of those that the visitor was given, is `Reports`. A check that
--- begins with a path makes the runs that are left from it (`Left`), and one that is stopped says with which path to go on. Where
--- the store gave no text, a report says besides what `Fresh.antt` says of a check from the beginning (`fresh`).
+-- begins with a path makes the runs that are left from it (`Left` of `loom_engine/specs/Trees/Resuming.antt`), and one that is
+-- stopped says with which path to go on. Where the store gave no text, a report says besides what `Fresh.antt` says of a check
+-- from the beginning (`fresh`).
 use Rattle.std.specs.Prelude.{◌≡◌, ◌≢◌, ◌≤◌, ◌<◌, ℕ, Bool, false, List, [], ◌++◌, Option, Some, None, String, length, string_bytes}
 use Rattle.std.specs.Duration.{as_nanos}
 use Rattle.std.specs.declared.alloc.Global.{Global}
@@ -9,7 +10,6 @@ use Rattle.loom_views.specs.declared.rt.failure.FailureKind.{FailureKind}
 use Rattle.loom_views.specs.declared.rt.failure.FailureKind.TheVariants.{OrdersEqual}
 use Rattle.loom_objects.specs.declared.choice.Choice.{Choice}
 use Rattle.loom_objects.specs.Tree.Tree.{Tree}
-use Rattle.loom_engine.specs.Walk.Path.{IsResting, Rest}
 use Rattle.loom_engine.specs.Trees.Check.{Makes, MakesAll}
 use Rattle.loom_engine.specs.Trees.Marks.{marking}
 use Rattle.loom_engine.specs.Trees.Meeting.{Settings}
@@ -21,7 +21,7 @@ use Rattle.serde_json.specs.Written.{compact_text}
 use Rattle.loom_engine.specs.Checkpoint.Grammar.{path_data}
 pub use Rattle.loom.specs.Model.StoredText.{IsTextOf, ReadsAs}
 use Rattle.loom.specs.Model.Settings.{explores, most_runs, search_of}
-use Rattle.loom.specs.Model.Fresh.{machine, IsCompleteReport, IsStoppedReport, IsFailedReport, WasGiven}
+use Rattle.loom.specs.Model.Fresh.{IsCompleteReport, IsStoppedReport, IsFailedReport, WasGiven}
 use Rattle.loom.specs.declared.model.builder.Builder.{Builder}
 use Rattle.loom.specs.declared.model.Limit.TheVariants.{Permutations, Duration as Lasting}
 use Rattle.loom.specs.declared.model.report.Report.{Report}
@@ -30,14 +30,6 @@ use Rattle.loom.specs.declared.model.report.Report.TheVariants.{Complete, Stoppe
 -- ---- checks that begin with a path
 
 module _ {D : Type 0} (s : Settings) (tree : Tree D) where
-  -- the path is one of this body's: its runs meet each node of it
-  abbrev pub IsOfBody : List Node → Type 0
-  IsOfBody path = IsResting (machine s tree) (stored path)
-
-  -- the runs that are left from a path
-  abbrev pub Left : List Node → List Choice → Type 0
-  Left path = Rest (machine s tree) (stored path)
-
   -- A check that began with this path is complete. It made just the runs that were left, each once, none of which fails
   -- (`HasCompletedFrom`).
   pub record Completes (path : List Node) (runs : List (List Choice × D)) : Type 0 where
