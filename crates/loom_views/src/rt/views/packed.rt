@@ -147,15 +147,26 @@ impl PackedPlaces {
 
     /// A number that depends on it alone (own).
     pub fn digest(&self) -> u64 {
-        let mut digest = 0u64;
-        for one in self.list.as_slice() {
-            digest = mixed(digest, one.digest());
-        }
-        for store in self.stores.as_slice() {
-            digest = mixed(digest, store.digest());
-        }
-        digest
+        digest_with(digest_of(self.list.as_slice()), self.stores.as_slice())
     }
+}
+
+/// A number that depends on what is kept of these objects alone, but for the stores of the atomics.
+fn digest_of(list: &[Packed]) -> u64 {
+    let mut digest = 0u64;
+    for one in list {
+        digest = mixed(digest, one.digest());
+    }
+    digest
+}
+
+/// A number that depends on this one and on these stores alone.
+pub(crate) fn digest_with(number: u64, stores: &[Store]) -> u64 {
+    let mut digest = number;
+    for store in stores {
+        digest = mixed(digest, store.digest());
+    }
+    digest
 }
 
 /// With one object more, which has no stores.

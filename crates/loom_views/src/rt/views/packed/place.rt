@@ -4,8 +4,7 @@ ghost use Rattle.std.specs.Prelude.{◌≡◌, ◌∷◌, [], IfOk, IfSome, IsTr
 ghost use Rattle.loom_views.specs.Packed.{all_stores, unpacked_one};
 
 use crate::rt::atomic::Store;
-use crate::rt::views::packed::{Packed, PackedPlaces};
-use crate::rt::vv::mixed;
+use crate::rt::views::packed::{Packed, PackedPlaces, digest_with};
 use crate::same::{Same, are_same};
 use crate::sequence::Sequence;
 use crate::shelf::{MOST_COMPARED, Shared, Shelf};
@@ -141,9 +140,5 @@ fn find_place<'a>(
 
 /// A number that depends on what is kept of an object alone.
 fn digest_of(one: &Packed, stores: &[Store]) -> u64 {
-    let mut digest = one.digest();
-    for store in stores {
-        digest = mixed(digest, store.digest());
-    }
-    digest
+    digest_with(one.digest(), stores)
 }
