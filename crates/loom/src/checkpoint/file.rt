@@ -117,8 +117,5 @@ pub fn file_store<'a, R: Files>(
     ensures named { IfSome result (λ store. MatchOption name.now (Unit {0}) (λ name. store.path.now ≡ string_bytes name)) }
     ensures faults { IfSome result (λ store. store.files.faults ≡ 0) }
 {
-    match name {
-        Some(name) => Some(FileStore::new(rt, alloc, name.as_str())),
-        None => None,
-    }
+    Some(FileStore::new(rt, alloc, name.as_ref()?.as_str()))
 }
