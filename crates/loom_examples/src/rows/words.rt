@@ -266,24 +266,45 @@ pub(crate) fn refuse_name<E: Write>(
 }
 
 // The row's name that is reached from this word by the fewest changes of a letter, or nothing, where no name keeps a letter.
-fn nearest<'a>(alloc: Global, rows: &'a [Row], word: &str) -> Result<&'a str, AllocError> {
-    let mut nearest = "";
-    let mut least = usize::MAX;
+fn nearest(alloc: Global, rows: &[Row], word: &str) -> Result<&'static str, AllocError> {
+    let mut near = Near {
+        name: "",
+        changes: usize::MAX,
+    };
     for row in rows {
-        let distance = strsim::levenshtein(alloc, row.name, word)?;
-        if distance < least.min(row.name.len()) {
-            nearest = row.name;
-            least = distance;
-        }
+        near = near.or(alloc, row.name, word)?;
     }
+    Ok(or_closures(alloc, near, word)?.name)
+}
+
+// This name, or that of a row of closures, where one is nearer to the word.
+fn or_closures(alloc: Global, name: Near, word: &str) -> Result<Near, AllocError> {
+    let mut near = name;
     for row in ROWS {
-        let distance = strsim::levenshtein(alloc, row.name(), word)?;
-        if distance < least.min(row.name().len()) {
-            nearest = row.name();
-            least = distance;
-        }
+        near = near.or(alloc, row.name(), word)?;
     }
-    Ok(nearest)
+    Ok(near)
+}
+
+// A name, and by how many changes of a letter it is reached from a word.
+#[derive(Clone, Copy)]
+struct Near {
+    name: &'static str,
+    changes: usize,
+}
+
+impl Near {
+    // This name, or the other one, where that is nearer to the word and keeps a letter of it.
+    fn or(self, alloc: Global, other: &'static str, word: &str) -> Result<Near, AllocError> {
+        let changes = strsim::levenshtein(alloc, other, word)?;
+        if changes < self.changes.min(other.len()) {
+            return Ok(Near {
+                name: other,
+                changes,
+            });
+        }
+        Ok(self)
+    }
 }
 
 // The words are wrong, as clap says. Its text ends with the usage or with a hint, which both are here already. Where it is the
