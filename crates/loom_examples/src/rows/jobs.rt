@@ -154,10 +154,10 @@ fn begin<S: CheckpointStore>(
 // The check up to the next time that its list may be saved, after so many runs and so much time.
 pub(crate) fn stage(builder: &Builder, runs: u64, time: Duration) -> Builder {
     let left = most_runs(builder).saturating_sub(runs);
-    let next = match &builder.checkpoint_file {
-        Some(_) => time.checked_add(Duration::from_millis(SAVE_MILLIS)),
-        None => None,
-    };
+    let next = builder
+        .checkpoint_file
+        .as_ref()
+        .and_then(|_| time.checked_add(Duration::from_millis(SAVE_MILLIS)));
     let until = match (builder.max_duration, next) {
         (Some(longest), Some(next)) => Some(longest.min(next)),
         (longest, next) => longest.or(next),

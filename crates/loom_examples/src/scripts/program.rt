@@ -73,10 +73,7 @@ impl Program {
     pub(crate) fn code(&self) -> Option<&[u8]>
         ensures { IfSome result (λ code. Tell code.now self.now) }
     {
-        match &self.code {
-            Some(code) => Some(code.as_slice()),
-            None => None,
-        }
+        Some(self.code.as_ref()?.as_slice())
     }
 
     /// The step at this place, if there is one.
