@@ -66,12 +66,12 @@ use Rattle.loom_objects.specs.Rules.Arc.{arc_begins, comes_to, counts, decrement
 use Rattle.loom_objects.specs.Rules.Condvar.{condvar_begins, falls_asleep, left_by, relocks, wait_begins as condvar_wait, wake_begins as condvar_wake, wakes, with_waiters, woken_by}
 use Rattle.loom_objects.specs.Rules.Leaks.{is_none_left}
 use Rattle.loom_objects.specs.Rules.Locals.{are_open, is_taken, is_working, lazy_at, lazy_begins, local_at, local_begins, local_or, makes_lazy, puts_local, reads_lazy, reads_local}
-use Rattle.loom_objects.specs.Rules.Moves.{a_condvar, a_mutex, a_notify, a_rwlock, a_track, a_wakers, acquires, acquires_from_stamp, active_thread, an_arc, an_atomic_waker, at_phase, changes_active, is_number, pends, releases, releases_to_stamp, some_wakers, stamps, takes_result, unparks, with_points, with_stamp, yielded, yields, yields_more}
-use Rattle.loom_objects.specs.Rules.Mpsc.{blocks_if, by_receiver, by_sender, channel_begins, delivers, drains, drains_from, drains_if, drains_on, first_of, fits_behind, receives, receives_from, sends, takes, tries_recv, wakes_if, with_channel}
+use Rattle.loom_objects.specs.Rules.Moves.{a_condvar, a_mutex, a_notify, a_rwlock, a_track, a_wakers, acquires, acquires_from_stamp, active_thread, an_arc, an_atomic_waker, at_phase, changes_active, is_number, pends, releases, releases_to_stamp, some_wakers, stamps, takes_result, unparks, wakes_if, with_points, with_stamp, yielded, yields, yields_more}
+use Rattle.loom_objects.specs.Rules.Mpsc.{blocks_if, by_receiver, by_sender, channel_begins, delivers, drains, drains_from, drains_if, drains_on, first_of, fits_behind, receives, receives_from, sends, takes, tries_recv, with_channel}
 use Rattle.loom_objects.specs.Rules.Mutex.{free_value, frees, lock, locks_unless, mutex_begins, try_lock}
 use Rattle.loom_objects.specs.Rules.Notify.{awaits, comes_to_wait, enters_wait, has_waker, is_alone, is_for_waits, may_be_spurious, notifies, notify, notify_begins, wait_begins, waits_or_rouses, wakes_early, with_notify}
 use Rattle.loom_objects.specs.Rules.Rule.{◌>>=◌, check, found}
-use Rattle.loom_objects.specs.Rules.RwLock.{claims, guards_of, is_refused, is_unread, reads_lock, refusal, rwlock_begins, takes as takes_lock, takes_unless, unlocked_value, wakes_if as wakes_lock, with_one_fewer as with_one_guard_fewer, with_rwlock, writes_lock}
+use Rattle.loom_objects.specs.Rules.RwLock.{claims, guards_of, is_refused, is_unread, reads_lock, refusal, rwlock_begins, takes as takes_lock, takes_unless, unlocked_value, with_one_fewer as with_one_guard_fewer, with_rwlock, writes_lock}
 use Rattle.loom_objects.specs.Rules.Thread.{child_finish, finish_as, has_own, if_other, is_exited, is_finished, join, parks_unless, thread_begins}
 use Rattle.loom_objects.specs.Rules.Waker.{acquires_if, after_clone, after_drop, after_wake, atomic_waker_begins, clones_waker, drops_waker, frees_place, has_taken, holds_place, registers, registers_if, takes_place, takes_waker, waker_begins, waker_pends, wakes_by, with_wakers}
 use Rattle.loom_objects.specs.Tree.Tree.{came}
@@ -134,9 +134,9 @@ module _ {D V : Type 0} (limits : FailureKind → Bool) (steps : limits TooManyS
       after limits seen see (a_condvar n w) _ _ (λ condvar. (refl, rouses_so limits seen see tells (woken_by which condvar.waiters.items) (with_waiters n (left_by which condvar.waiters.items) w) q k y e))
 
   -- ---- read-write locks
-  wakes_lock_so : {A : Type 0} (a : A) (is_free : Bool) (n : ℕ) (w : World D) (q : Points) (k : ℕ) (y : List ℕ) → SeenSame limits seen see w q y → Follows limits seen see (Ok (a, wakes_lock is_free n w)) (Ok (a, wakes_lock is_free n (with_other limits seen see q k y w)))
-  wakes_lock_so a true n w q k y e = (refl, (_, _, _, e, refl))
-  wakes_lock_so a false n w q k y e = (refl, (_, _, _, e, refl))
+  wakes_if_so : {A : Type 0} (a : A) (wakes : Bool) (n : ℕ) (w : World D) (q : Points) (k : ℕ) (y : List ℕ) → SeenSame limits seen see w q y → Follows limits seen see (Ok (a, wakes_if wakes n w)) (Ok (a, wakes_if wakes n (with_other limits seen see q k y w)))
+  wakes_if_so a true n w q k y e = (refl, (_, _, _, e, refl))
+  wakes_if_so a false n w q k y e = (refl, (_, _, _, e, refl))
 
   pub rwlock_begins_so : (todo : RwLockOp D) (w : World D) (q : Points) (k : ℕ) (y : List ℕ) → SeenSame limits seen see w q y → Follows limits seen see (rwlock_begins todo w) (rwlock_begins todo (with_other limits seen see q k y w))
   rwlock_begins_so (lock_op.New value) w q k y e = (refl, (_, _, _, (tells.point w.points q e.0, e.1), refl))
@@ -146,7 +146,7 @@ module _ {D V : Type 0} (limits : FailureKind → Bool) (steps : limits TooManyS
   rwlock_begins_so (lock_op.TryWrite n) w q k y e = after limits seen see (a_rwlock n w) _ _ (λ lock. (refl, (_, _, _, e, refl)))
   rwlock_begins_so (lock_op.ReadRelease n) w q k y e =
       after limits seen see (a_rwlock n w) _ _ (λ lock. after limits seen see (check (nat_lt 0 (guards_of w.active lock)) Misuse) _ _ (λ some.
-      wakes_lock_so _ (is_unread (with_one_guard_fewer w.active lock)) n (releases n (with_rwlock n (with_one_guard_fewer w.active lock) w)) (points_after_release q w.active n Release) k y (tells.release w.points q w.active n Release e.0, e.1)))
+      wakes_if_so _ (is_unread (with_one_guard_fewer w.active lock)) n (releases n (with_rwlock n (with_one_guard_fewer w.active lock) w)) (points_after_release q w.active n Release) k y (tells.release w.points q w.active n Release e.0, e.1)))
   rwlock_begins_so (lock_op.WriteRelease n value) w q k y e =
       after limits seen see (a_rwlock n w) _ _ (λ lock. after limits seen see (check (is_number lock.writer w.active) Misuse) _ _ (λ own. (refl, (_, _, _, (tells.release w.points q w.active n Release e.0, e.1), refl))))
   rwlock_begins_so (lock_op.GetMut n) w q k y e = after limits seen see (a_rwlock n w) _ _ (λ lock. after limits seen see (found (unlocked_value lock) Misuse) _ _ (λ value. (refl, (_, _, _, e, refl))))
@@ -280,10 +280,6 @@ module _ {D V : Type 0} (limits : FailureKind → Bool) (steps : limits TooManyS
   sends_at n value m s w q k y i e =
       subst (λ x. Follows limits seen see {A = Entry D} (Ok (AtBranch, pends (task.Send n (record { value = value ∷ []; stamp = m } ∷ [])) false (with_stamp w))) (Ok (AtBranch, pends (task.Send n (record { value = value ∷ []; stamp = x } ∷ [])) false (with_stamp (with_other limits seen see q k y w))))) i
       (refl, (_, _, _, (tells.stamp w.points q e.0, e.1), refl))
-
-  wakes_if_so : {A : Type 0} (a : A) (wakes : Bool) (n : ℕ) (w : World D) (q : Points) (k : ℕ) (y : List ℕ) → SeenSame limits seen see w q y → Follows limits seen see (Ok (a, wakes_if wakes n w)) (Ok (a, wakes_if wakes n (with_other limits seen see q k y w)))
-  wakes_if_so a true n w q k y e = (refl, (_, _, _, e, refl))
-  wakes_if_so a false n w q k y e = (refl, (_, _, _, e, refl))
 
   tries_recv_so : (is_empty : Bool) (n : ℕ) (w : World D) (q : Points) (k : ℕ) (y : List ℕ) → SeenSame limits seen see w q y → Follows limits seen see (tries_recv is_empty n w) (tries_recv is_empty n (with_other limits seen see q k y w))
   tries_recv_so true n w q k y e = (refl, (_, _, _, e, refl))

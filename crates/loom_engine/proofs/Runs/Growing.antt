@@ -58,17 +58,17 @@ use Rattle.loom_objects.specs.declared.rt.thread.Waking.{Waking}
 use Rattle.loom_objects.specs.declared.rt.thread.Waking.TheVariants.{All, One}
 use Rattle.loom_objects.specs.Rules.Atomic.{access_begins, atomic_begins, fence, is_relaxed, needs_memory as atomic_needs_memory}
 use Rattle.loom_objects.specs.Rules.Cell.{cell_begins, data_left, exchanges_cells, is_free, is_unread, opens_write, reads_open, swap_if, needs_memory as cell_needs_memory}
-use Rattle.loom_objects.specs.Rules.Mpsc.{by_receiver, by_sender, channel_begins, drains_if, tries_recv, wakes_if as wakes_receivers, needs_memory as channel_needs_memory}
+use Rattle.loom_objects.specs.Rules.Mpsc.{by_receiver, by_sender, channel_begins, drains_if, tries_recv, needs_memory as channel_needs_memory}
 use Rattle.loom_objects.specs.Rules.Condvar.{condvar_begins, wait_begins, wake_begins, needs_memory as condvar_needs_memory}
 use Rattle.loom_objects.specs.Rules.Arc.{arc_begins, comes_to, needs_memory as arc_needs_memory}
 use Rattle.loom_objects.specs.Rules.Leaks.{is_none_left}
 use Rattle.loom_objects.specs.Lent.{handed_back, value_in}
 use Rattle.loom_objects.specs.Rules.Mutex.{free_value, frees, mutex_begins, needs_memory as mutex_needs_memory}
-use Rattle.loom_objects.specs.Rules.Moves.{a_cell, a_condvar, a_mutex, a_notify, an_atomic_waker, a_rwlock, a_track, active_thread, an_arc, an_atomic, at_phase, changed_at, changes_active, is_number, unparks, with_object, with_points, with_thread, yields}
+use Rattle.loom_objects.specs.Rules.Moves.{a_cell, a_condvar, a_mutex, a_notify, an_atomic_waker, a_rwlock, a_track, active_thread, an_arc, an_atomic, at_phase, changed_at, changes_active, is_number, unparks, wakes_if, with_object, with_points, with_thread, yields}
 use Rattle.loom_objects.specs.Rules.Notify.{comes_to_wait, is_alone, is_for_waits, may_be_spurious, notify_begins, needs_memory as notify_needs_memory}
 use Rattle.loom_objects.specs.Operation.Accessed.{accessed}
 use Rattle.loom_objects.specs.Rules.Rule.{◌>>=◌, check, found}
-use Rattle.loom_objects.specs.Rules.RwLock.{claim_begins, guards_of, is_unread as is_unread_lock, rwlock_begins, unlocked_value, wakes_if, with_one_fewer, needs_memory as rwlock_needs_memory}
+use Rattle.loom_objects.specs.Rules.RwLock.{claim_begins, guards_of, is_unread as is_unread_lock, rwlock_begins, unlocked_value, with_one_fewer, needs_memory as rwlock_needs_memory}
 use Rattle.loom_objects.specs.Rules.Thread.{finish_as, has_own, is_exited, is_finished, parks_unless, thread_begins, needs_memory as thread_needs_memory}
 use Rattle.loom_objects.specs.Rules.Alloc.{track_begins, track_take, needs_memory as track_needs_memory}
 use Rattle.loom_objects.specs.Rules.Locals.{is_working, lazy_begins, lazy_needs_memory, local_at, local_begins, local_needs_memory, puts_local}
@@ -279,10 +279,6 @@ module _ {D : Type 0} (w : World D) where
   tries_recv_stays true n = stayed
   tries_recv_stays false n = by_thread w _ w.active stayed
 
-  wakes_receivers_stays : (wakes : Bool) (n : ℕ) (v : World D) → HasAsMany w v → HasAsMany w (wakes_receivers wakes n v)
-  wakes_receivers_stays true n v s = by_threads v _ s
-  wakes_receivers_stays false n v s = s
-
   drains_if_stays : (is_some_left : Bool) (channel : Channel D) (n : ℕ) → Answers Stays (drains_if is_some_left channel n w)
   drains_if_stays true channel n = by_thread w _ w.active stayed
   drains_if_stays false channel n = by_object w n _ stayed
@@ -295,7 +291,7 @@ module _ {D : Type 0} (w : World D) where
   channel_stays (channel_op.CloneSender n) h = onward (by_sender n w) _ (λ channel. onward (check (nat_lt channel.senders highest_count) TooManySteps) _ (λ u. by_object w n _ stayed))
   channel_stays (channel_op.DropSender n) h =
       onward (by_sender n w) _ (λ channel.
-      wakes_receivers_stays (channel.senders == 1) n _ (by_object w n (object.Channel (record channel { senders = channel.senders - 1 })) stayed))
+      wakes_if_stays (channel.senders == 1) n _ (by_object w n (object.Channel (record channel { senders = channel.senders - 1 })) stayed))
   channel_stays (channel_op.DropReceiver n) h = onward (by_receiver n w) _ (λ channel. drains_if_stays (nat_lt 0 (length channel.messages)) channel n)
 
   pends_stays : (todo : Task D) (c : ℕ) → Answers Stays (waker_pends todo c w)

@@ -31,11 +31,11 @@ use Rattle.loom_objects.specs.declared.rt.thread.Task.{Task}
 use Rattle.loom_objects.specs.declared.rt.thread.Task.TheVariants as task
 use Rattle.loom_objects.specs.declared.rt.thread.Thread.{Thread}
 use Rattle.loom_objects.specs.Rules.Atomic.{reads}
-use Rattle.loom_objects.specs.Rules.Mpsc.{blocks_if, by_receiver, by_sender, channel_begins, delivers, drains, drains_from, drains_if, drains_on, first_of, fits_behind, receives, receives_from, sends, takes, tries_recv, wakes_if}
+use Rattle.loom_objects.specs.Rules.Mpsc.{blocks_if, by_receiver, by_sender, channel_begins, delivers, drains, drains_from, drains_if, drains_on, first_of, fits_behind, receives, receives_from, sends, takes, tries_recv}
 use Rattle.loom_objects.specs.Rules.Tables.{chosen, counted, takes_effect}
 use Rattle.loom_objects.specs.Rules.Ending.{end_of}
 use Rattle.loom_objects.specs.Rules.Leaks.{check_leak, first_leak, is_none_left}
-use Rattle.loom_objects.specs.Rules.Moves.{at_phase, changed_at, having, is_number, pending, pending_with, received_from, receiving_with, target, with_thread}
+use Rattle.loom_objects.specs.Rules.Moves.{at_phase, changed_at, having, is_number, pending, pending_with, received_from, receiving_with, target, wakes_if, with_thread}
 use Rattle.loom_objects.specs.Rules.Rule.{◌>>=◌, check, found}
 use Rattle.loom_objects.specs.Schedule.Offers.{chooses, runs_again}
 use Rattle.loom_objects.specs.Rules.Thread.{finish, finish_as}

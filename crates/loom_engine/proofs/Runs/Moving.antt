@@ -78,10 +78,10 @@ use Rattle.loom_objects.specs.Rules.Arc.{arc_begins, comes_to, counts, decrement
 use Rattle.loom_objects.specs.Lent.{value_in}
 use Rattle.loom_objects.specs.Rules.Mutex.{free_value, frees, lock, locks_unless, mutex_begins, try_lock}
 use Rattle.loom_objects.specs.Scene.Lookup.{looked_up, atomic_in, mutex_in, rwlock_in, condvar_in, notify_in, cell_in, arc_in, track_in, wakers_in, atomic_waker_in}
-use Rattle.loom_objects.specs.Rules.Moves.{a_wakers, active_thread, at_phase, changed_at, having, in_state, is_number, pending, pending_with, releases, resting, rests, rouses, rouses_all, running, takes_result, target, joins_view, unparked, unparks, with_new, with_points, with_token, writing_with, written, yielded, yields, pends}
+use Rattle.loom_objects.specs.Rules.Moves.{a_wakers, active_thread, at_phase, changed_at, having, in_state, is_number, pending, pending_with, releases, resting, rests, rouses, rouses_all, running, takes_result, target, joins_view, unparked, unparks, wakes_if, with_new, with_points, with_token, writing_with, written, yielded, yields, pends}
 use Rattle.loom_objects.specs.Rules.Notify.{awaits, comes_to_wait, enters_wait, has_waker, is_alone, is_for_waits, may_be_spurious, notify_begins, notifies, notify, wait_begins as notifier_wait_begins, waits_or_rouses, wakes_early, with_notify}
 use Rattle.loom_objects.specs.Rules.Rule.{◌>>=◌, check, found}
-use Rattle.loom_objects.specs.Rules.RwLock.{claim_begins, claims, guards_of, is_refused, is_unread as is_unread_lock, reads_lock, rwlock_begins, takes_unless, unlocked_value, wakes_if, with_one_fewer, writes_lock}
+use Rattle.loom_objects.specs.Rules.RwLock.{claim_begins, claims, guards_of, is_refused, is_unread as is_unread_lock, reads_lock, rwlock_begins, takes_unless, unlocked_value, with_one_fewer, writes_lock}
 use Rattle.loom_objects.specs.Rules.Thread.{child_finish, finish, has_own, is_exited, is_finished, join, parks_unless, thread_begins, without_locals}
 use Rattle.loom_objects.specs.Rules.Alloc.{track_begins, track_take}
 use Rattle.loom_objects.specs.Rules.Replied.{gone, replied}

@@ -85,13 +85,13 @@ use Rattle.loom_objects.specs.Rules.Condvar.{condvar_begins, falls_asleep, wait_
 use Rattle.loom_objects.specs.Rules.Ending.{end_of}
 use Rattle.loom_objects.specs.Rules.Leaks.{check_leak, first_leak, is_none_left}
 use Rattle.loom_objects.specs.Rules.Locals.{are_open, is_taken, is_working, lazy_at, lazy_begins, local_at, local_begins, local_or, makes_lazy, none_there, puts_local, reads_lazy, reads_local}
-use Rattle.loom_objects.specs.Rules.Moves.{a_cell, a_condvar, a_mutex, a_notify, a_rwlock, a_track, a_wakers, active_thread, an_arc, an_atomic, an_atomic_waker, acquires, is_number, joined_points, rouses, rouses_all, some_wakers, takes_result, unparks, with_points, yields}
-use Rattle.loom_objects.specs.Rules.Mpsc.{by_receiver, by_sender, channel_begins, delivers, drains, drains_from, drains_if, drains_on, first_of, fits_behind, receives, receives_from, sends, takes as takes_message, tries_recv, wakes_if as wakes_receiver_if, blocks_if}
+use Rattle.loom_objects.specs.Rules.Moves.{a_cell, a_condvar, a_mutex, a_notify, a_rwlock, a_track, a_wakers, active_thread, an_arc, an_atomic, an_atomic_waker, acquires, is_number, joined_points, rouses, rouses_all, some_wakers, takes_result, unparks, wakes_if, with_points, yields}
+use Rattle.loom_objects.specs.Rules.Mpsc.{by_receiver, by_sender, channel_begins, delivers, drains, drains_from, drains_if, drains_on, first_of, fits_behind, receives, receives_from, sends, takes as takes_message, tries_recv, blocks_if}
 use Rattle.loom_objects.specs.Rules.Mutex.{free_value, frees, lock, locks_unless, mutex_begins, try_lock}
 use Rattle.loom_objects.specs.Rules.Notify.{awaits, comes_to_wait, enters_wait, has_waker, is_alone, is_for_waits, may_be_spurious, notifies, notify, notify_begins, wait_begins as notifier_wait_begins, waits_or_rouses, wakes_early, with_notify}
 use Rattle.loom_objects.specs.Rules.Replied.{gone, replied}
 use Rattle.loom_objects.specs.Rules.Rule.{◌>>=◌, check, found}
-use Rattle.loom_objects.specs.Rules.RwLock.{claim_begins, claims, guards_of, is_refused, is_unread as is_unread_lock, reads_lock, rwlock_begins, takes_unless, unlocked_value, wakes_if, with_one_fewer, writes_lock}
+use Rattle.loom_objects.specs.Rules.RwLock.{claim_begins, claims, guards_of, is_refused, is_unread as is_unread_lock, reads_lock, rwlock_begins, takes_unless, unlocked_value, with_one_fewer, writes_lock}
 use Rattle.loom_objects.specs.Rules.Thread.{child_finish, finish_as, has_own, is_exited, is_finished, join, parks_unless, thread_begins, if_other}
 use Rattle.loom_objects.specs.Rules.Waker.{acquires_if, after_clone, after_drop, after_wake, atomic_waker_begins, clones_waker, drops_waker, frees_place, has_taken, holds_place, registers, registers_if, take_begins, takes_place, takes_waker, wake_begins as wake_by_begins, waker_begins, waker_pends, wakes_by}
 use Rattle.loom_objects.specs.World.{World, MAX_THREADS}
@@ -435,24 +435,20 @@ module _ (D : Type 0) (P : Points → Type 0) (May : Does → Type 0) (step : (p
   drains_if_points true channel n w s = s
   drains_if_points false channel n w s = s
 
-  wakes_receiver_points : (wakes : Bool) (n : ℕ) (w : World D) → P w.points → P (wakes_receiver_if wakes n w).points
-  wakes_receiver_points true n w s = s
-  wakes_receiver_points false n w s = s
-
   pub channel_points : (todo : ChannelOp D) (w : World D) → P w.points → Answers In (channel_begins todo w)
   channel_points channel_op.New w s = step w.points _ new_point tt s
   channel_points (channel_op.Send n value) w s = onward (by_sender n w) _ (λ channel. step w.points _ new_stamp tt s)
   channel_points (channel_op.Recv n) w s = onward (by_receiver n w) _ (λ channel. s)
   channel_points (channel_op.TryRecv n) w s = onward (by_receiver n w) _ (λ channel. tries_points (is_none_left channel.messages) n w s)
   channel_points (channel_op.CloneSender n) w s = onward (by_sender n w) _ (λ channel. onward (check (nat_lt channel.senders highest_count) TooManySteps) _ (λ u. s))
-  channel_points (channel_op.DropSender n) w s = onward (by_sender n w) _ (λ channel. wakes_receiver_points (channel.senders == 1) n _ s)
+  channel_points (channel_op.DropSender n) w s = onward (by_sender n w) _ (λ channel. wakes_if_points (channel.senders == 1) n _ s)
   channel_points (channel_op.DropReceiver n) w s = onward (by_receiver n w) _ (λ channel. drains_if_points (nat_lt 0 (length channel.messages)) channel n w s)
 
   delivers_points : (has_receiver : Bool) (channel : Channel D) (n : ℕ) (sent : List (Message D)) (message : Message D) (w : World D) → P w.points → Answers In (delivers has_receiver channel n sent message w)
   delivers_points false channel n sent message w s = onward (found (first_of message.value) Misuse) _ (λ value. s)
   delivers_points true channel n sent message w s =
       onward (check (fits_behind channel.messages sent) TooManySteps) _ (λ u.
-      wakes_receiver_points (is_none_left channel.messages) n _ (step _ _ (stamp n message.stamp) tt (released w.points w.active n s)))
+      wakes_if_points (is_none_left channel.messages) n _ (step _ _ (stamp n message.stamp) tt (released w.points w.active n s)))
 
   pub sends_points : (n : ℕ) (sent : List (Message D)) (w : World D) → P w.points → Answers In (sends n sent w)
   sends_points n sent w s = onward (by_sender n w) _ (λ channel. onward (found (first_of sent) Misuse) _ (λ message. delivers_points channel.has_receiver channel n sent message w s))

@@ -34,11 +34,11 @@ use Rattle.loom_objects.specs.declared.rt.thread.Task.{Task}
 use Rattle.loom_objects.specs.declared.rt.thread.Task.TheVariants as task
 use Rattle.loom_objects.specs.declared.rt.thread.Thread.{Thread}
 use Rattle.loom_objects.specs.Rules.Atomic.{reads}
-use Rattle.loom_objects.specs.Rules.Mpsc.{blocks_if, channel_begins, delivers, drains, drains_from, drains_if, drains_on, first_of, fits_behind, none_left, receives, receives_from, sends, takes, tries_recv, wakes_if, with_channel}
+use Rattle.loom_objects.specs.Rules.Mpsc.{blocks_if, channel_begins, delivers, drains, drains_from, drains_if, drains_on, first_of, fits_behind, none_left, receives, receives_from, sends, takes, tries_recv, with_channel}
 use Rattle.loom_objects.specs.Rules.Tables.{chosen, op_begins, takes_effect}
 use Rattle.loom_objects.specs.Rules.Ending.{end_of}
 use Rattle.loom_objects.specs.Rules.Leaks.{check_leak, first_leak, is_none_left}
-use Rattle.loom_objects.specs.Rules.Moves.{acquires_from_stamp, active_thread, at_phase, changed_at, changes_active, having, is_number, pending, pending_with, received_from, receiving_with, releases, stamps, takes_result, target, with_thread}
+use Rattle.loom_objects.specs.Rules.Moves.{acquires_from_stamp, active_thread, at_phase, changed_at, changes_active, having, is_number, pending, pending_with, received_from, receiving_with, releases, stamps, takes_result, target, wakes_if, with_thread}
 use Rattle.loom_objects.specs.Rules.Notify.{enters_wait as waits}
 use Rattle.loom_objects.specs.Rules.Rule.{◌>>=◌, check, found}
 use Rattle.loom_objects.specs.Schedule.Offers.{chooses, runs_again}

@@ -24,8 +24,8 @@ use Rattle.loom_objects.specs.declared.rt.thread.Thread.{Thread}
 use Rattle.loom_objects.specs.Rules.Ending.{end_of}
 use Rattle.loom_objects.specs.Rules.Leaks.{check_leak, first_leak, is_none_left}
 use Rattle.loom_objects.specs.Rules.Locals.{are_open, is_working, lazy_at, lazy_begins, makes_lazy, reads_lazy}
-use Rattle.loom_objects.specs.Rules.Moves.{active_thread, at_phase, changes_active, having, is_number, pending_with, pends, received_from, receiving_with, releases, releases_to_stamp, stamps, target, with_object, with_stamp}
-use Rattle.loom_objects.specs.Rules.Mpsc.{blocks_if, by_receiver, by_sender, channel_begins, delivers, drains, drains_from, drains_if, drains_on, first_of, fits_behind, receives, receives_from, sends, takes, tries_recv, wakes_if}
+use Rattle.loom_objects.specs.Rules.Moves.{active_thread, at_phase, changes_active, having, is_number, pending_with, pends, received_from, receiving_with, releases, releases_to_stamp, stamps, target, wakes_if, with_object, with_stamp}
+use Rattle.loom_objects.specs.Rules.Mpsc.{blocks_if, by_receiver, by_sender, channel_begins, delivers, drains, drains_from, drains_if, drains_on, first_of, fits_behind, receives, receives_from, sends, takes, tries_recv}
 use Rattle.loom_objects.specs.Rules.Rule.{◌>>=◌, check, found}
 use Rattle.loom_objects.specs.Rules.Tables.{counted, takes_effect}
 use Rattle.loom_objects.specs.Rules.Thread.{finish, finish_as}

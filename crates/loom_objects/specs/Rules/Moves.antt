@@ -234,6 +234,11 @@ module _ {D : Type 0} where
   abbrev pub blocks_pending : ℕ → World D → World D
   blocks_pending n w = record w { threads = map (pending_with n Blocked) w.threads }
 
+  -- the pending are woken, or nobody is
+  abbrev pub wakes_if : Bool → ℕ → World D → World D
+  wakes_if true n w = wakes_pending n w
+  wakes_if false n w = w
+
   -- who is pending to write lock n can't go on
   abbrev pub blocks_writers : ℕ → World D → World D
   blocks_writers n w = record w { threads = map (writing_with n Blocked) w.threads }

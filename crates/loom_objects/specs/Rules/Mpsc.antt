@@ -21,7 +21,7 @@ use Rattle.loom_objects.specs.declared.rt.thread.Task.TheVariants as task
 use Rattle.loom_objects.specs.Rules.Leaks.{is_none_left}
 use Rattle.loom_objects.specs.Rules.Rule.{◌>>=◌, check, found}
 use Rattle.loom_objects.specs.World.{World}
-use Rattle.loom_objects.specs.Rules.Moves.{a_channel, acquires_from_stamp, blocks_receivers, pends, releases, stamps, wakes_pending, with_new, with_object, with_stamp}
+use Rattle.loom_objects.specs.Rules.Moves.{a_channel, acquires_from_stamp, blocks_receivers, pends, releases, stamps, wakes_if, with_new, with_object, with_stamp}
 
 abbrev pub first_of : {A : Type 0} → List A → Option A
 first_of [] = None
@@ -79,10 +79,6 @@ module _ {D : Type 0} where
     channel ← by_sender n w
     _ ← check (nat_lt channel.senders highest_count) TooManySteps
     Ok (Answered reply.Done, with_channel n (record channel { senders = channel.senders + 1 }) w)
-
-  abbrev pub wakes_if : Bool → ℕ → World D → World D
-  wakes_if true n w = wakes_pending n w
-  wakes_if false n w = w
 
   -- with the last one who is pending is woken
   abbrev pub sender_drop : ℕ → World D → Result (Entry D × World D) FailureKind

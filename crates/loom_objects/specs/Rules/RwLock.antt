@@ -21,7 +21,7 @@ use Rattle.loom_objects.specs.Rules.Rule.{◌>>=◌, check, found}
 use Rattle.loom_objects.specs.World.{World}
 use Rattle.loom_objects.specs.Scene.Lookup.{rwlock_at}
 use Rattle.loom_objects.specs.Lent.{kept, value_in, handed_out, handed_back, lent_to, put_back, taken_apart}
-use Rattle.loom_objects.specs.Rules.Moves.{a_rwlock, acquires, releases, with_object, with_new, is_number, wakes_pending, blocks_pending, blocks_writers, pends}
+use Rattle.loom_objects.specs.Rules.Moves.{a_rwlock, acquires, releases, with_object, with_new, is_number, wakes_if, wakes_pending, blocks_pending, blocks_writers, pends}
 
 -- a thread that takes a lock so waits for it
 abbrev pub waits : Claim → Bool
@@ -125,10 +125,6 @@ module _ {D : Type 0} where
     lock ← a_rwlock n w
     _ ← check (is_none lock.content.lent) Misuse
     takes_unless (is_refused claim lock) claim n lock w
-
-  abbrev pub wakes_if : Bool → ℕ → World D → World D
-  wakes_if true n w = wakes_pending n w
-  wakes_if false n w = w
 
   -- a guard of the thread ends, and it releases; where none is left, who is pending on the lock is woken
   abbrev pub read_release : ℕ → World D → Result (Entry D × World D) FailureKind

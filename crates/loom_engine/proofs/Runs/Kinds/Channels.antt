@@ -11,9 +11,9 @@ use Rattle.loom_objects.specs.declared.rt.thread.Receiving.{Receiving}
 use Rattle.loom_objects.specs.declared.rt.thread.Receiving.TheVariants as receiving
 use Rattle.loom_objects.specs.declared.rt.thread.State.TheVariants.{Blocked, Runnable}
 use Rattle.loom_objects.specs.declared.rt.thread.Task.TheVariants as task
-use Rattle.loom_objects.specs.Rules.Mpsc.{blocks_if, by_receiver, by_sender, channel_begins, delivers, drains, drains_from, drains_if, drains_on, first_of, fits_behind, receives, receives_from, sends, takes, tries_recv, wakes_if}
+use Rattle.loom_objects.specs.Rules.Mpsc.{blocks_if, by_receiver, by_sender, channel_begins, delivers, drains, drains_from, drains_if, drains_on, first_of, fits_behind, receives, receives_from, sends, takes, tries_recv}
 use Rattle.loom_objects.specs.Rules.Leaks.{is_none_left}
-use Rattle.loom_objects.specs.Rules.Moves.{a_channel}
+use Rattle.loom_objects.specs.Rules.Moves.{a_channel, wakes_if}
 use Rattle.loom_objects.specs.World.{World}
 use Rattle.loom_engine.proofs.Runs.Events.{Anything}
 use Rattle.loom_engine.proofs.Runs.Fairness.{IsFairResult}

@@ -11,8 +11,8 @@ use Rattle.loom_objects.specs.declared.rt.thread.Claim.{Claim}
 use Rattle.loom_objects.specs.declared.rt.thread.Claim.TheVariants.{Read, TryRead, Write, TryWrite}
 use Rattle.loom_objects.specs.Rules.Cell.{count_of, is_zero}
 use Rattle.loom_objects.specs.Lent.{value_in}
-use Rattle.loom_objects.specs.Rules.RwLock.{claims, guards_of, is_held, is_refused, is_unread, read_release, reads_lock, refused, rwlock_begins, rwlock_get_mut, rwlock_into_inner, rwlock_put, takes, takes_unless, unlocked_value, wakes_if, with_one_fewer, with_rwlock, write_release, writes_lock, claim_begins, waits}
-use Rattle.loom_objects.specs.Rules.Moves.{acquires, blocks_pending, is_number}
+use Rattle.loom_objects.specs.Rules.RwLock.{claims, guards_of, is_held, is_refused, is_unread, read_release, reads_lock, refused, rwlock_begins, rwlock_get_mut, rwlock_into_inner, rwlock_put, takes, takes_unless, unlocked_value, with_one_fewer, with_rwlock, write_release, writes_lock, claim_begins, waits}
+use Rattle.loom_objects.specs.Rules.Moves.{acquires, blocks_pending, is_number, wakes_if}
 use Rattle.loom_objects.specs.World.{World}
 use Rattle.loom_engine.specs.Runs.Histories.{returned_by_rwlock}
 use Rattle.loom_engine.proofs.Runs.Keeping.{WritesAlone}
