@@ -27,6 +27,7 @@ pub enum Becoming {
 /// A load or a read-modify-write.
 #[derive(Clone, Copy)]
 pub struct Update {
+    /// What it makes of the number that it reads.
     pub becoming: Becoming,
     /// The ordering where something is stored.
     pub success: Ordering,

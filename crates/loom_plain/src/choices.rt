@@ -45,6 +45,7 @@ pub struct Made {
     pub disabled: [bool; MAX_THREADS],
     /// Whether another option may be tried.
     pub is_exploring: bool,
+    /// What was known of the schedules before it.
     pub past: Past,
     /// Of each option whether the run calls for it.
     pub marks: [bool; MAX_OPTIONS],

@@ -21,8 +21,9 @@ pub struct Rest {
     pub nobody: Thread,
     /// In place of an object that isn't there.
     pub nothing: Object,
-    /// The points of accesses to objects, and the accesses, from the first one.
+    /// The points of accesses to objects.
     pub order: Graph,
+    /// The accesses, from the first one.
     pub accesses: Vec<Access>,
     /// The values that were made once in the run, in the order made, each with the point that is acquired with it.
     pub lazies: Sequence<Lazy<u64>>,
@@ -36,6 +37,7 @@ pub struct Rest {
     pub is_exploring: bool,
     /// Whether that stays as it is up to the run's end.
     pub is_settled: bool,
+    /// What the run may use, and which runs are made.
     pub settings: Settings,
     /// How many threads have ended.
     pub ended: usize,
@@ -47,6 +49,7 @@ pub struct Rest {
 /// its way still does doesn't count.
 #[derive(Drop)]
 pub struct Machine {
+    /// Where memory comes from.
     pub alloc: Global,
     /// How the run fails.
     pub failure: Option<FailureKind>,
@@ -60,6 +63,7 @@ pub struct Machine {
     pub objects: Vec<Object>,
     /// The thread whose turn it is.
     pub active: u8,
+    /// What few moves change.
     pub rest: Box<Rest>,
 }
 

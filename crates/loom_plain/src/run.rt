@@ -18,8 +18,11 @@ use std::mem;
 /// What a run may use, and which runs are made.
 #[derive(Clone, Copy)]
 pub struct Settings {
+    /// How many threads it may have.
     pub max_threads: usize,
+    /// How many choices it may make.
     pub max_branches: usize,
+    /// How many operations its threads may hand over.
     pub max_steps: usize,
     /// Whether a thread is tried only where an access calls for it.
     pub reduce: bool,
@@ -40,6 +43,7 @@ pub enum Ending {
 /// A thread that was about to make an access which depends on an earlier one that it isn't ordered after.
 #[derive(Clone, Copy)]
 pub struct Reversal {
+    /// The thread that was about to make it.
     pub thread: u8,
     /// The place of the schedule that chose the thread of the earlier access.
     pub place: usize,
@@ -52,7 +56,9 @@ pub struct PlainRun {
     pub choices: Vec<Choice>,
     /// Its choices, each with what else could have been chosen.
     pub made: Vec<Made>,
+    /// The threads whose accesses weren't ordered after an earlier one that they depend on.
     pub reversals: Vec<Reversal>,
+    /// How it ended.
     pub ending: Ending,
 }
 

@@ -11,7 +11,9 @@ use std::alloc::Global;
 /// A run of the set.
 #[derive(Drop)]
 pub struct Found {
+    /// Its choices, in order.
     pub choices: Vec<Choice>,
+    /// How it ended.
     pub ending: Ending,
 }
 

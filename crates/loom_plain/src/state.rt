@@ -34,12 +34,14 @@ pub struct Pending {
     pub number: usize,
     /// What it does to the object, as far as others depend on it.
     pub action: Option<Action>,
+    /// What it does then.
     pub step: Step,
 }
 
 /// A thread's own value.
 #[derive(Clone, Copy)]
 pub struct Local {
+    /// The key under which it is found.
     pub key: usize,
     /// Nothing once it was given back.
     pub value: Option<u64>,
@@ -48,8 +50,11 @@ pub struct Local {
 /// A thread of the run.
 #[derive(Drop)]
 pub struct Thread {
+    /// What it waits for.
     pub state: State,
+    /// How near it is to its end.
     pub phase: Phase,
+    /// What it does when it is chosen.
     pub pending: Pending,
     /// The point that it is at.
     pub present: usize,
@@ -63,12 +68,15 @@ pub struct Thread {
     pub yielded: Option<usize>,
     /// How often it has yielded.
     pub yields: u64,
+    /// Whether it was unparked while it wasn't parked, and hasn't parked since.
     pub has_token: bool,
     /// What main finished with, or what a thread will hand to who joins it.
     pub value: Option<u64>,
     /// Its own notifier; main has none.
     pub notifier: Option<usize>,
+    /// Whether a thread joins it, or has joined it.
     pub is_joined: bool,
+    /// Its name, if it was given one.
     pub name: Option<Name>,
     /// In the order made.
     pub locals: Vec<Local>,
@@ -85,11 +93,13 @@ pub struct Thread {
 pub struct Store {
     /// Its place among all stores of the atomic; the initial one has 0.
     pub number: usize,
+    /// The number that was stored.
     pub value: u64,
     /// The point of its place in the modification order.
     pub order: usize,
     /// The point that is acquired with it.
     pub sync: usize,
+    /// Whether it is sequentially consistent.
     pub is_seq_cst: bool,
     /// Of each thread that has touched it: the last point that had raised the thread at its first touch, or 0.
     pub touches: [Option<usize>; MAX_THREADS],
@@ -109,20 +119,25 @@ pub enum Access {
 /// An access, and the point that its thread was at.
 #[derive(Clone, Copy)]
 pub struct Accessed {
+    /// What kind of access it is.
     pub access: Access,
+    /// The point that its thread was at.
     pub point: usize,
 }
 
 /// A message, and the point that is acquired with it.
 #[derive(Clone, Copy)]
 pub struct Message {
+    /// What was sent.
     pub value: u64,
+    /// The point that is acquired with it.
     pub point: usize,
 }
 
 /// An object. What another kind has doesn't count.
 #[derive(Drop)]
 pub struct Object {
+    /// What it is.
     pub kind: Kind,
     /// Whether it may be used.
     pub is_whole: bool,
@@ -146,9 +161,11 @@ pub struct Object {
     pub stores: Vec<Store>,
     /// The threads that wait on a condition variable, the first one first.
     pub waiters: LinkedList<u8>,
+    /// Whether the notifier has a notification that no thread has taken.
     pub is_notified: bool,
     /// Whether a thread has woken from the notifier without a notification.
     pub has_woken: bool,
+    /// Whether the channel's receiver is left.
     pub has_receiver: bool,
     /// The message that was sent first first.
     pub messages: LinkedList<Message>,

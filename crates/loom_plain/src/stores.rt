@@ -10,6 +10,7 @@ use std::sync::atomic::Ordering;
 /// Who looks for a store to read.
 #[derive(Clone, Copy)]
 pub struct Reader {
+    /// The thread that reads.
     pub thread: u8,
     /// The point that the thread is at.
     pub present: usize,
