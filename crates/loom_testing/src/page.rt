@@ -8,6 +8,7 @@ use std::fmt::{Debug, Display};
 /// What was found, as a text. Where memory for a piece is refused it is missing, and no test wants such a text.
 #[derive(Drop)]
 pub struct Page {
+    /// The text.
     pub text: String,
 }
 

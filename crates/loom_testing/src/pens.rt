@@ -7,7 +7,9 @@ use std::io::{self, ErrorKind, Write};
 /// What a program writes with. A broken one takes nothing.
 #[derive(Drop)]
 pub struct Pen {
+    /// What was written with it.
     pub text: Vec<u8>,
+    /// Whether it takes nothing.
     pub is_broken: bool,
 }
 
@@ -40,9 +42,13 @@ impl Write for Pen {
 /// What is printed on standard output, whether something follows there, what on standard error, and the status.
 #[derive(Clone, Copy)]
 pub struct Printed<'a> {
+    /// What is on standard output, or its beginning.
     pub out: &'a str,
+    /// Whether more is there.
     pub goes_on: bool,
+    /// What is on standard error.
     pub err: &'a str,
+    /// The exit status.
     pub status: u8,
 }
 
