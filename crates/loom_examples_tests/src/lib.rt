@@ -1,8 +1,11 @@
-//! Tests by the examples: what is told of scripts, walks of bodies and of closures, and what the documents show.
+//! Tests by the examples: what is told of scripts, walks of bodies and of closures, checks of closures with their logs and lines, and what
+//! the documents show.
 #![tactic(auto)]
 
 #[cfg(test)]
 mod asserting;
+#[cfg(test)]
+mod closures;
 #[cfg(test)]
 mod explanations;
 #[cfg(test)]

@@ -1,7 +1,6 @@
 //! Explanations of runs of closures, with their data: whole texts.
 use crate::asserting::same;
-use crate::closures::{Count, holds};
-use crate::texts;
+use crate::closures::{Count, holds, texts};
 use loom::choices::Choices;
 use loom::model::builder::Builder;
 use loom::runner::{Handle, Incomplete, RunnerError, Stop, expect_complete, explain};

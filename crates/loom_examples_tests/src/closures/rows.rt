@@ -1,6 +1,5 @@
 //! What the program prints of the rows that are closures.
-use crate::closures::holds;
-use crate::texts;
+use crate::closures::{holds, texts};
 use loom::model::builder::Builder;
 use loom::runner::Host;
 use loom_examples::closures::rows::{ClosureRow, ROWS, named, run_row};

@@ -8,6 +8,7 @@ mod printed;
 mod resumed;
 mod rows;
 mod shared;
+mod texts;
 
 use loom::runner::exact::Exact;
 use loom_objects::data::Data;
