@@ -1,6 +1,17 @@
 //! Whether two values are the same one.
 ghost use Rattle.std.specs.Prelude.{◌≡◌, IsTrue};
 
+/// Whether the value is of this kind, and what it is made of passes the test, as in `is_kind!(other, Some(x) => one == x)` (own).
+#[macro_export]
+macro_rules! is_kind {
+    ($value:expr, $kind:pat => $test:expr) => {
+        match $value {
+            $kind => $test,
+            _ => false,
+        }
+    };
+}
+
 /// Values that can be compared (own).
 pub trait Same {
     /// Whether it is the same value (own).

@@ -7,16 +7,7 @@ ghost use Rattle.loom.specs.Runner.Kinds.{holds_result};
 use crate::runner::exact::{Exact, is_same_value};
 use lists::{are_same_lazies, are_same_locals, are_same_messages};
 use loom_objects::operation::{AtomicOp, Reply, Request, ThreadOp};
-
-// Whether the value is of this kind, and what it is made of passes the test.
-macro_rules! is_kind {
-    ($value:expr, $kind:pat => $test:expr) => {
-        match $value {
-            $kind => $test,
-            _ => false,
-        }
-    };
-}
+use loom_views::is_kind;
 
 /// Whether the two ask for the same (own).
 pub fn is_same_request<D: Exact>(one: &Request<D, ()>, other: &Request<D, ()>) -> bool

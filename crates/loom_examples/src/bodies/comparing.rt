@@ -6,17 +6,8 @@ use crate::bodies::spin::{self, Spin};
 use crate::bodies::updates::{self, Updater};
 use crate::scripts::comparing::is_order_same;
 use loom::sync::atomic::FetchUpdate;
+use loom_views::is_kind;
 use loom_views::same::Same;
-
-// Whether the value is of this kind, and what it is made of passes the test.
-macro_rules! is_kind {
-    ($value:expr, $kind:pat => $test:expr) => {
-        match $value {
-            $kind => $test,
-            _ => false,
-        }
-    };
-}
 
 impl Same for Counter {
     fn is_same(&self, other: &Counter) -> bool {
@@ -31,14 +22,8 @@ impl Same for Awaits {
             Awaits::TheMutex => matches!(*other, Awaits::TheMutex),
             Awaits::TheLock => matches!(*other, Awaits::TheLock),
             Awaits::Nothing => matches!(*other, Awaits::Nothing),
-            Awaits::Counting(mutex) => match *other {
-                Awaits::Counting(same) => mutex.number == same.number,
-                _ => false,
-            },
-            Awaits::Leaving(count, leaving) => match *other {
-                Awaits::Leaving(number, same) => count == number && leaving == same,
-                _ => false,
-            },
+            Awaits::Counting(a) => is_kind!(*other, Awaits::Counting(x) => a.number == x.number),
+            Awaits::Leaving(a, b) => is_kind!(*other, Awaits::Leaving(x, y) => a == x && b == y),
         }
     }
 }

@@ -9,18 +9,9 @@ use crate::scripts::state::{Handle, State};
 use crate::scripts::step::{Step, Value};
 use loom_objects::label::Label;
 use loom_objects::operation::{AtomicOp, Request, ThreadOp};
+use loom_views::is_kind;
 use loom_views::same::{Same, are_same};
 use std::sync::atomic::Ordering;
-
-// Whether the value is of this kind, and what it is made of passes the test.
-macro_rules! is_kind {
-    ($value:expr, $kind:pat => $test:expr) => {
-        match $value {
-            $kind => $test,
-            _ => false,
-        }
-    };
-}
 
 impl Same for Script {
     fn is_same(&self, other: &Script) -> bool {

@@ -8,18 +8,6 @@ use loom_views::sequence::Sequence;
 use std::alloc::{AllocError, Global};
 use std::collections::LinkedList;
 
-// Whether the value is of this kind, and what it is made of passes the test.
-macro_rules! is_kind {
-    ($value:expr, $kind:pat => $test:expr) => {
-        match $value {
-            $kind => $test,
-            _ => false,
-        }
-    };
-}
-
-pub(crate) use is_kind;
-
 /// A value that can be copied and compared (own).
 pub trait Kept: Drop {
     /// A copy. An error where memory is refused (own).

@@ -10,12 +10,13 @@ ghost use Rattle.loom_objects.specs.Scene.Stage.{Does, DoesIfOk};
 ghost use Rattle.loom_objects.specs.Stages.Waker as stages;
 
 use crate::operation::{NotifyOp, Reply};
-use crate::rt::kept::{Kept, is_kind};
+use crate::rt::kept::Kept;
 use crate::rt::object::{Object, of_kind};
 use crate::rt::run::Entry;
 use crate::rt::scene::Scene;
 use crate::rt::thread::Task;
 use crate::rt::waker::some_wakers;
+use loom_views::is_kind;
 use loom_views::rt::failure::FailureKind;
 use loom_views::same::Same;
 use std::alloc::{AllocError, Global};

@@ -10,9 +10,10 @@ pub use crate::operation::Name;
 use crate::operation::{AtomicOp, Keyed, Message};
 use crate::rt::kept::{
     Kept, are_data_equal, are_equal, are_messages_equal, copied_all, copied_data, copied_messages,
-    copied_value, is_kind,
+    copied_value,
 };
 pub use crate::rt::schedule::Ability;
+use loom_views::is_kind;
 use loom_views::same::Same;
 use loom_views::sequence::Sequence;
 use std::alloc::{AllocError, Global};

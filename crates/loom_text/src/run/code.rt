@@ -5,20 +5,11 @@ ghost use Rattle.loom_text.specs.Run.Code.{code_of, registers_of};
 use crate::run::operators::Operator;
 use loom_objects::label::Label;
 use loom_objects::operation::Name;
+use loom_views::is_kind;
 use loom_views::same::{Same, are_same};
 use loom_views::sequence::Sequence;
 use std::alloc::{AllocError, Global};
 use std::sync::atomic::Ordering;
-
-// Whether the value is of this kind, and what it is made of passes the test.
-macro_rules! is_kind {
-    ($value:expr, $kind:pat => $test:expr) => {
-        match $value {
-            $kind => $test,
-            _ => false,
-        }
-    };
-}
 
 /// What an instruction computes with (own).
 #[derive(Clone, Copy, PartialEq, Eq)]
