@@ -27,7 +27,7 @@ pub use crate::rows::tables::all_rows;
 use crate::rows::tasks::{Task, do_task};
 use crate::scripts::step::Step;
 use loom::model::Report;
-use loom::model::builder::Builder;
+use loom::model::builder::{Builder, DEFAULT_MAX_BRANCHES, DEFAULT_MAX_STEPS};
 use loom::model::error::CheckError;
 use loom_views::rt::MAX_THREADS;
 use std::io::{self, Write};
@@ -56,8 +56,8 @@ pub struct Row {
 /// The settings that a builder begins with.
 pub const DEFAULTS: Settings = Settings {
     max_threads: MAX_THREADS,
-    max_branches: 1000,
-    max_steps: 1_000_000,
+    max_branches: DEFAULT_MAX_BRANCHES,
+    max_steps: DEFAULT_MAX_STEPS,
     max_permutations: None,
     reduce: true,
     preemption_bound: None,

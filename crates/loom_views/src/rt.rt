@@ -14,3 +14,6 @@ pub const MAX_THREADS: usize = 5;
 
 /// The most stores of an atomic that are kept.
 pub const MAX_ATOMIC_HISTORY: usize = 7;
+
+/// The most stores that an atomic may have in a run, its first value counted (own).
+pub const MAX_STORES: u16 = 65_535;

@@ -5,10 +5,20 @@ ghost use Rattle.loom.specs.Model.Settings.{defaults, tested, tested_bound};
 
 use crate::model::env::{Env, EnvError, number_or, optional, seconds};
 use crate::model::error::{CheckError, Variable};
+use loom_engine::rt::path::MAX_BRANCHES;
 use loom_views::rt::MAX_THREADS;
 use std::alloc::{AllocError, Global};
 use std::rt::Env as HostEnv;
 use std::time::Duration;
+
+/// How many nodes a run may have, by default (loom's `model::DEFAULT_MAX_BRANCHES`).
+pub const DEFAULT_MAX_BRANCHES: usize = 1000;
+
+/// How many operations the threads of a run may hand over, by default (own).
+pub const DEFAULT_MAX_STEPS: usize = 1_000_000;
+
+/// After how many runs a check saves its checkpoint again, by default (loom's `model::Builder::new`).
+pub const DEFAULT_CHECKPOINT_INTERVAL: usize = 20_000;
 
 /// How a check is done (loom's `model::Builder`).
 #[derive(Debug, Drop)]
@@ -63,15 +73,15 @@ impl Builder {
     {
         Builder {
             max_threads: MAX_THREADS,
-            max_branches: 1000,
-            max_steps: 1_000_000,
+            max_branches: DEFAULT_MAX_BRANCHES,
+            max_steps: DEFAULT_MAX_STEPS,
             max_permutations: None,
             max_duration: None,
             max_different: None,
             reduce: true,
             preemption_bound: None,
             checkpoint_file: None,
-            checkpoint_interval: 20_000,
+            checkpoint_interval: DEFAULT_CHECKPOINT_INTERVAL,
             expect_explicit_explore: false,
             snapshots: false,
             location: false,
@@ -108,12 +118,19 @@ impl Builder {
     fn numbers_of(env: &Env) -> Result<Builder, CheckError>
         ensures { result ≡ numbers_of env.now }
     {
-        let max_branches = number_or(Variable::MaxBranches, &env.max_branches, 1000)?;
+        let max_branches = number_or(
+            Variable::MaxBranches,
+            &env.max_branches,
+            DEFAULT_MAX_BRANCHES,
+        )?;
         let max_permutations = optional(Variable::MaxPermutations, &env.max_permutations)?;
         let max_duration = seconds(&env.max_duration)?;
         let preemption_bound = optional(Variable::MaxPreemptions, &env.max_preemptions)?;
-        let interval = &env.checkpoint_interval;
-        let checkpoint_interval = number_or(Variable::CheckpointInterval, interval, 20_000)?;
+        let checkpoint_interval = number_or(
+            Variable::CheckpointInterval,
+            &env.checkpoint_interval,
+            DEFAULT_CHECKPOINT_INTERVAL,
+        )?;
         Ok(Builder {
             max_branches,
             max_permutations,
@@ -146,7 +163,7 @@ impl Builder {
         if self.max_threads < 1 || self.max_threads > MAX_THREADS {
             return Err(CheckError::MaxThreads(self.max_threads));
         }
-        if self.max_branches < 1 || self.max_branches > 1_000_000 {
+        if self.max_branches < 1 || self.max_branches > MAX_BRANCHES as usize {
             return Err(CheckError::MaxBranches(self.max_branches));
         }
         test_bound(self.preemption_bound)?;

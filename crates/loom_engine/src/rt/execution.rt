@@ -23,7 +23,7 @@ ghost use Rattle.loom_engine.specs.Runs.Machine as machine;
 ghost use Rattle.loom_engine.specs.Path.Route.{Route, IsAtStart, IsSame, IsSameSearch, Decides, Switches};
 ghost use Rattle.loom_objects.specs.Tree.Stores.{which_store};
 
-use crate::rt::path::Path;
+use crate::rt::path::{MAX_BRANCHES, Path};
 use loom_objects::data::Data;
 use loom_objects::failure::{Stop, failed};
 use loom_objects::operation::{ExploreOp, Reply, Request, Turn};
@@ -74,7 +74,7 @@ fn record_stop<D>(over: &mut Option<Stop>, answer: &Result<Begun<D>, Stop>)
 }
 
 // as many as a path may have nodes: the path refuses the next one before this is used up
-const FURTHER_BRANCHES: u32 = 1_000_000;
+const FURTHER_BRANCHES: u32 = MAX_BRANCHES;
 
 /// How much a run may use.
 #[derive(Clone, Copy, Debug)]

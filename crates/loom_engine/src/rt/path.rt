@@ -43,6 +43,9 @@ use loom_views::rt::failure::FailureKind;
 use std::alloc::{AllocError, Global};
 use std::marker::Model;
 
+/// The most nodes that a check may allow a run (own).
+pub const MAX_BRANCHES: u32 = 1_000_000;
+
 /// What a search tries (loom's `rt/path.rs`).
 #[derive(Clone, Copy, Debug, PartialEq, Eq)]
 pub struct Search {

@@ -23,13 +23,13 @@ ghost use Rattle.loom_views.specs.Atomic.Fences.{standing_in, scene_at, after_st
 ghost use Rattle.loom_views.specs.Atomic.History.{in_slot, Scene, load_step, store_step, update_read_step, update_write_step, update_fail_step, unsync_load_step, mutate_step, mutate_end_step, new_step};
 ghost use Rattle.loom_views.specs.Atomic.Shown.{ShowsScene, AnswersAs, FinishesAs};
 
-use crate::rt::MAX_ATOMIC_HISTORY;
 pub use crate::rt::atomic::reader::Reader;
 use crate::rt::atomic::touches::Touches;
 use crate::rt::failure::FailureKind;
 use crate::rt::ranks::{Ranks, Standing};
 use crate::rt::synchronize::{Synchronize, ThreadViews};
 use crate::rt::vv::{VersionVec, mixed};
+use crate::rt::{MAX_ATOMIC_HISTORY, MAX_STORES};
 use crate::same::Same;
 use crate::sequence::Sequence;
 use std::alloc::AllocError;
@@ -52,7 +52,7 @@ pub struct Store {
 }
 
 /// What is kept of an atomic: the last `MAX_ATOMIC_HISTORY` stores, the joined views of the accesses of each kind, and how many
-/// stores there were, at most 65,535 (loom's `rt/atomic.rs`).
+/// stores there were, at most `MAX_STORES` (loom's `rt/atomic.rs`).
 #[derive(Clone, Copy)]
 pub struct State {
     loaded_at: VersionVec,
@@ -187,7 +187,7 @@ impl State {
             (λ kind. (self.old.count ≡ most_stores) × (kind ≡ TooManyStores)) }
         ensures err { OnErr result (self.new ≡ self.old) }
     {
-        if self.count == u16::MAX {
+        if self.count == MAX_STORES {
             return Err(FailureKind::TooManyStores);
         }
         self.push(thread, views, sync, value, order);

@@ -2,7 +2,9 @@
 use crate::text::page::Page;
 use crate::text::reasons::Scene;
 use loom_objects::operation::Request;
+use loom_views::rt::MAX_STORES;
 use loom_views::rt::failure::FailureKind;
+use loom_views::rt::vv::MAX_VERSION;
 
 /// The limit that the run passed, and what helps.
 pub(crate) fn put_limit(out: &mut Page, scene: &Scene<'_>, kind: FailureKind) {
@@ -22,11 +24,11 @@ pub(crate) fn put_limit(out: &mut Page, scene: &Scene<'_>, kind: FailureKind) {
         ),
         FailureKind::TooManyStores => (
             "  an atomic may have $ stores, the first value counted: this is one more\n  no setting raises this: let a run store less to one atomic\n",
-            65_535,
+            usize::from(MAX_STORES),
         ),
         _ => (
             "  a thread may have $ versions, one for each access, fence and spawn: this is one more\n  no setting raises this: let a thread do less in a run\n",
-            65_534,
+            usize::from(MAX_VERSION),
         ),
     };
     put_target(out, scene);
