@@ -282,14 +282,14 @@ fn put_reason(out: &mut Page, scene: &Scene<'_>, kind: FailureKind) {
         FailureKind::Deadlock => deadlock::put_deadlock(out, scene),
         FailureKind::Race => race::put_race(out, scene),
         FailureKind::OpenAccess => race::put_open_access(out, scene),
-        FailureKind::LeakArc | FailureKind::LeakTrack | FailureKind::LeakMessages => {
-            leaks::put_leak(out, scene.world, kind);
-        }
-        FailureKind::TooManyThreads
-        | FailureKind::TooManyBranches
-        | FailureKind::TooManySteps
-        | FailureKind::TooManyVersions
-        | FailureKind::TooManyStores => limits::put_limit(out, scene, kind),
+        FailureKind::LeakArc => leaks::put_references(out, scene.world),
+        FailureKind::LeakTrack => leaks::put_values(out, scene.world),
+        FailureKind::LeakMessages => leaks::put_messages(out, scene.world),
+        FailureKind::TooManyThreads => limits::put_threads(out, scene),
+        FailureKind::TooManyBranches => limits::put_branches(out, scene),
+        FailureKind::TooManySteps => limits::put_steps(out, scene),
+        FailureKind::TooManyVersions => limits::put_versions(out, scene),
+        FailureKind::TooManyStores => limits::put_stores(out, scene),
         FailureKind::OrdersEqual => race::put_equal_orders(out, scene),
         FailureKind::Misuse => misuse::put_misuse(out, scene),
         FailureKind::RelaxedFence => bodies::put_fence(out, scene),

@@ -271,7 +271,11 @@ pub fn access<D: Drop>(scene: &mut Scene<D>, access: AtomicOp) -> Result<Resumed
         | AtomicOp::Update(number, ..)
         | AtomicOp::CompareExchange(number, _)
         | AtomicOp::CompareAndSwap(number, ..) => open(scene, number, reader_of(access), access),
-        _ => Err(FailureKind::Misuse),
+        AtomicOp::New(..)
+        | AtomicOp::UnsyncLoad(_)
+        | AtomicOp::IntoInner(_)
+        | AtomicOp::WithMut(_)
+        | AtomicOp::WithMutEnd(..) => Err(FailureKind::Misuse),
     }
 }
 
@@ -333,7 +337,12 @@ pub fn read<D: Drop>(
             let answer = exchange(scene, number, swap_of(expected, new, order), slot)?;
             Ok(Reply::Value(either_way(answer)))
         }
-        _ => Err(FailureKind::Misuse),
+        AtomicOp::New(..)
+        | AtomicOp::Store(..)
+        | AtomicOp::UnsyncLoad(_)
+        | AtomicOp::IntoInner(_)
+        | AtomicOp::WithMut(_)
+        | AtomicOp::WithMutEnd(..) => Err(FailureKind::Misuse),
     }
 }
 

@@ -3,7 +3,6 @@ use crate::text::forms::Kind;
 use crate::text::objects::Object;
 use crate::text::page::Page;
 use crate::text::world::World;
-use loom_views::rt::failure::FailureKind;
 
 /// What may be left of an object of a kind.
 struct Leak {
@@ -44,15 +43,24 @@ static MESSAGES: Leak = Leak {
     otherwise: "  a channel was left with messages\n",
 };
 
-/// A counted reference, or a future whose wakers weren't all dropped; a tracked value; a channel's messages.
-pub(crate) fn put_leak(out: &mut Page, world: &World, kind: FailureKind) {
-    let leak = match kind {
-        FailureKind::LeakTrack => &VALUES,
-        FailureKind::LeakMessages => &MESSAGES,
-        _ if is_left(world, Kind::Arc) => &REFERENCES,
-        _ => &WAKERS,
+/// A counted reference, or a future whose wakers weren't all dropped.
+pub(crate) fn put_references(out: &mut Page, world: &World) {
+    let leak = if is_left(world, Kind::Arc) {
+        &REFERENCES
+    } else {
+        &WAKERS
     };
     put_first(out, world, leak);
+}
+
+/// A tracked value.
+pub(crate) fn put_values(out: &mut Page, world: &World) {
+    put_first(out, world, &VALUES);
+}
+
+/// A channel's messages.
+pub(crate) fn put_messages(out: &mut Page, world: &World) {
+    put_first(out, world, &MESSAGES);
 }
 
 /// Whether an object of this kind is left.

@@ -146,7 +146,15 @@ fn atomic_action(access: AtomicOp) -> Action
 {
     match access {
         AtomicOp::Load(..) => Action::Read,
-        _ => Action::Change,
+        AtomicOp::New(..)
+        | AtomicOp::Store(..)
+        | AtomicOp::Update(..)
+        | AtomicOp::CompareExchange(..)
+        | AtomicOp::CompareAndSwap(..)
+        | AtomicOp::UnsyncLoad(_)
+        | AtomicOp::IntoInner(_)
+        | AtomicOp::WithMut(_)
+        | AtomicOp::WithMutEnd(..) => Action::Change,
     }
 }
 
