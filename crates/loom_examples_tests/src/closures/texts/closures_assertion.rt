@@ -1,5 +1,5 @@
 //! The explanation of closures that do what the body `assertion` does, with their data.
-pub const TEXT: &str = r#"failed: assertion, at event 12
+pub(crate) const TEXT: &str = r#"failed: assertion, at event 12
   an assertion of thread 0 failed ("the count is 2")
   it came there by the reply to its operation at event 11
 replay: t0 l0 t1 t1 l0 t1 t1 t0 t0 t0 l1

@@ -1,5 +1,5 @@
 //! The explanation of closures that do what the body `race_unreleased` does, with their data.
-pub const TEXT: &str = r#"failed: race, at event 9
+pub(crate) const TEXT: &str = r#"failed: race, at event 9
   thread 1 reads cell #1 ("count") and doesn't know of thread 0's write of it (event 4)
   thread 1 read store 1 of atomic #0 ("flag", thread 0, Relaxed) by an Acquire read-modify-write:
   the store released nothing

@@ -1,5 +1,5 @@
 //! What the program prints of `relaxed_ring_closures` with `--explain`: a ring of two slots whose producer stores by `Relaxed`.
-pub const TEXT: &str = r#"failed 3 0 t0 l0 t1 t1 t1 t1 l0 t0 t0 l1
+pub(crate) const TEXT: &str = r#"failed 3 0 t0 l0 t1 t1 t1 t1 l0 t0 t0 l1
 failed: race, at event 15
   thread 0 reads cell #2 ("even") and doesn't know of thread 1's write of it (event 8)
   thread 0 read store 1 of atomic #1 ("put", thread 1, Relaxed) by an Acquire load:

@@ -1,5 +1,5 @@
 //! The explanation of the body `deadlock`.
-pub const TEXT: &str = r#"failed: deadlock, after event 7
+pub(crate) const TEXT: &str = r#"failed: deadlock, after event 7
   thread 0 (main): waits for mutex #1 ("right") since event 5; thread 1 holds it since event 6
   thread 1: waits for mutex #0 ("left") since event 7; thread 0 holds it since event 4
 replay: t0 t1 t1 t-

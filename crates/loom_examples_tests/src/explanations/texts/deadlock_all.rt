@@ -1,5 +1,5 @@
 //! The explanation of the body `deadlock_all`.
-pub const TEXT: &str = r#"failed: deadlock, after event 15
+pub(crate) const TEXT: &str = r#"failed: deadlock, after event 15
   thread 0 (main): waits for a message of channel #1 since event 11
   thread 1: waits to write RwLock #0 ("table") since event 12; thread 0 holds it since event 5
   thread 2: waits to read RwLock #3 since event 13; thread 0 holds it since event 6

@@ -1,5 +1,5 @@
 //! The explanation of the body `deadlock_asleep`.
-pub const TEXT: &str = r#"failed: deadlock, after event 17
+pub(crate) const TEXT: &str = r#"failed: deadlock, after event 17
   thread 0 (main): has ended
   thread 1 ("first"): has ended
   thread 2 ("second"): asleep on condvar #1 ("not empty") since event 9

@@ -1,5 +1,5 @@
 //! The explanation of the body `deadlock_twice`.
-pub const TEXT: &str = r#"failed: deadlock, after event 3
+pub(crate) const TEXT: &str = r#"failed: deadlock, after event 3
   thread 0 (main): waits for mutex #0 since event 3; it holds it itself since event 2
 replay: t0 t-
 

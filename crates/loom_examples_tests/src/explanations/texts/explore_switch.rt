@@ -1,5 +1,5 @@
 //! The explanation of the body `explore_switch`.
-pub const TEXT: &str = r#"failed: idle switch, at event 2
+pub(crate) const TEXT: &str = r#"failed: idle switch, at event 2
   thread 0 switches exploring to what it is already, since event 1
 replay:
 

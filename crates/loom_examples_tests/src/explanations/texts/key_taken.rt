@@ -1,5 +1,5 @@
 //! The explanation of the body `key_taken`.
-pub const TEXT: &str = r#"failed: key is taken, at event 3
+pub(crate) const TEXT: &str = r#"failed: key is taken, at event 3
   thread 0 makes its local 2 a second time, after event 2
   `put` gives another value to a key that has one
 replay:

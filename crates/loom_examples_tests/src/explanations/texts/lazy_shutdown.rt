@@ -1,5 +1,5 @@
 //! The explanation of the body `lazy_shutdown`.
-pub const TEXT: &str = r#"failed: lazy value is gone, at event 7
+pub(crate) const TEXT: &str = r#"failed: lazy value is gone, at event 7
   thread 1 uses lazy value 3, and main has given these values back, when it finished at event 3
   main is to join the threads that use them before it finishes
 replay: t1 t1

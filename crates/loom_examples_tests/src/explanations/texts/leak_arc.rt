@@ -1,5 +1,5 @@
 //! The explanation of the body `leak_arc`.
-pub const TEXT: &str = r#"failed: leaked reference, after event 6
+pub(crate) const TEXT: &str = r#"failed: leaked reference, after event 6
   Arc #0 ("shared"), made by thread 0 at event 1, has 1 reference left
   each `Arc::new` and each `clone` wants a `drop`, before main's end
 replay: t0 t0 t-

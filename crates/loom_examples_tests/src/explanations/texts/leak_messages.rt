@@ -1,5 +1,5 @@
 //! The explanation of the body `leak_messages`.
-pub const TEXT: &str = r#"failed: leaked messages, after event 7
+pub(crate) const TEXT: &str = r#"failed: leaked messages, after event 7
   channel #0, made by thread 0 at event 1, has 1 message left
   receive what was sent, or drop the receiver
 replay: t0 t0 t0 t-

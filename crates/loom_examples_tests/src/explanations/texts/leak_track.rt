@@ -1,5 +1,5 @@
 //! The explanation of the body `leak_track`.
-pub const TEXT: &str = r#"failed: leaked value, after event 5
+pub(crate) const TEXT: &str = r#"failed: leaked value, after event 5
   tracked value #0 ("buffer"), made by thread 0 at event 1, wasn't given back
   each `Track::new` wants an `into_inner` or a `drop`
 replay: t-

@@ -1,5 +1,5 @@
 //! The explanation of the body `leak_waker`.
-pub const TEXT: &str = r#"failed: leaked reference, after event 6
+pub(crate) const TEXT: &str = r#"failed: leaked reference, after event 6
   future #1, made by thread 0 at event 1, has 1 waker left
   each waker wants a `drop` or a `wake`, and the future its `finish`
 replay: t0 t0 t-

@@ -1,5 +1,5 @@
 //! The explanation of the body `local_gone`.
-pub const TEXT: &str = r#"failed: local is gone, at event 4
+pub(crate) const TEXT: &str = r#"failed: local is gone, at event 4
   thread 0 uses its local 2, and has given its own values back, by `exit` at event 3
   `try_with` tells whether the value is still there
 replay:

@@ -1,5 +1,5 @@
 //! The explanation of the body `misuse`.
-pub const TEXT: &str = r#"failed: misuse, at event 6
+pub(crate) const TEXT: &str = r#"failed: misuse, at event 6
   thread 0 uses mutex #0 ("state"): the thread is to hold it
   thread 1 has it since event 4
 replay: t1 t1 t0

@@ -1,5 +1,5 @@
 //! The explanation of the body `misuse_apart`.
-pub const TEXT: &str = r#"failed: misuse, at event 3
+pub(crate) const TEXT: &str = r#"failed: misuse, at event 3
   thread 0 uses mutex #0 ("state"), which was taken apart at event 2
 replay:
 

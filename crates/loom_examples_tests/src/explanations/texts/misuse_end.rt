@@ -1,5 +1,5 @@
 //! The explanation of the body `misuse_end`.
-pub const TEXT: &str = r#"failed: misuse, at event 1
+pub(crate) const TEXT: &str = r#"failed: misuse, at event 1
   thread 0's end(): `finish`, `exit` and `end` come once each, in this order
 replay:
 

@@ -1,5 +1,5 @@
 //! The explanation of the body `not_deterministic`.
-pub const TEXT: &str = r#"failed: choices that don't fit, after event 6
+pub(crate) const TEXT: &str = r#"failed: choices that don't fit, after event 6
   the run met 2 of the choices that were given: choice 3 is none of those that stand there
   the choices are another body's, or those of another form of this one
 replay: t0 t1

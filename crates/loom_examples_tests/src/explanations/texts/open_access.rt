@@ -1,5 +1,5 @@
 //! The explanation of the body `open_access`.
-pub const TEXT: &str = r#"failed: open access, at event 5
+pub(crate) const TEXT: &str = r#"failed: open access, at event 5
   thread 1 begins to read cell #0 ("count"), which thread 0 has open since event 3: #0.get_mut()
 replay: t1
 

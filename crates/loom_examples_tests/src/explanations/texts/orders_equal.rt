@@ -1,5 +1,5 @@
 //! The explanation of the body `orders_equal`.
-pub const TEXT: &str = r#"failed: choices that don't fit, after event 11
+pub(crate) const TEXT: &str = r#"failed: choices that don't fit, after event 11
   the run met 7 of the choices that were given: choice 8 is none of those that stand there
   the choices are another body's, or those of another form of this one
 replay: t0 t1 t1 t1 t0 l2 t1

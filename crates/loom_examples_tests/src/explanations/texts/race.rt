@@ -1,5 +1,5 @@
 //! The explanation of the body `race`.
-pub const TEXT: &str = r#"failed: race, at event 10 (spin.rs:87)
+pub(crate) const TEXT: &str = r#"failed: race, at event 10 (spin.rs:87)
   thread 1 begins to write cell #1 ("count") and doesn't know of thread 0's write of it (event 5)
   thread 1 read store 2 of atomic #0 ("flag", thread 0, Relaxed) by a Relaxed exchange:
   nothing was acquired

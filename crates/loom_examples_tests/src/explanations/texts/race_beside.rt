@@ -1,5 +1,5 @@
 //! The explanation of the body `race_beside`.
-pub const TEXT: &str = r#"failed: race, at event 10
+pub(crate) const TEXT: &str = r#"failed: race, at event 10
   thread 1 begins to read cell #0 ("count") and doesn't know of thread 0's write of it (event 3)
   nothing orders the two: thread 1 has read nothing that thread 0 stored after it
 replay: t1

@@ -1,5 +1,5 @@
 //! The explanation of the body `race_mutated`.
-pub const TEXT: &str = r#"failed: race, at event 6
+pub(crate) const TEXT: &str = r#"failed: race, at event 6
   thread 1 stores to atomic #0 ("flag") and doesn't know of thread 0's mutation of it (event 4)
   nothing orders the two: thread 1 has read nothing that thread 0 stored after it
 replay: t1 t1

@@ -1,5 +1,5 @@
 //! The explanation of the body `race_three`.
-pub const TEXT: &str = r#"failed: race, at event 9 (spin.rs:87)
+pub(crate) const TEXT: &str = r#"failed: race, at event 9 (spin.rs:87)
   thread 2 begins to write cell #0 ("count") and doesn't know of one of these at least:
     thread 0's write of cell #0 ("count") (event 2)
     thread 1's read of cell #0 ("count") (event 7)

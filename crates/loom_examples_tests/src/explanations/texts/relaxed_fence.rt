@@ -1,5 +1,5 @@
 //! The explanation of the body `relaxed_fence`.
-pub const TEXT: &str = r#"failed: relaxed fence, at event 1
+pub(crate) const TEXT: &str = r#"failed: relaxed fence, at event 1
   thread 0 makes a fence with Relaxed, which orders nothing
   a fence is Acquire, Release, AcqRel or SeqCst
 replay:

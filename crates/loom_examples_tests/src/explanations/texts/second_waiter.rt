@@ -1,5 +1,5 @@
 //! The explanation of the body `second_waiter`.
-pub const TEXT: &str = r#"failed: second waiter, at event 4
+pub(crate) const TEXT: &str = r#"failed: second waiter, at event 4
   thread 1 is to wait on notifier #0 ("state"), and one thread may at a time
   thread 0 waits on it since event 3
 replay: s0 t1

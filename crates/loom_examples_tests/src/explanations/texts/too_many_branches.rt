@@ -1,5 +1,5 @@
 //! The explanation of the body `too_many_branches`.
-pub const TEXT: &str = r#"failed: too many branches, at event 23
+pub(crate) const TEXT: &str = r#"failed: too many branches, at event 23
   thread 1 is at atomic #0 ("locked")
   a run may come to 40 branch points (`max_branches`): this one came to one more
   a loop that waits wants a `yield_now` in each turn; else raise `max_branches`

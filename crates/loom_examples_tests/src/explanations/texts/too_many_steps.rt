@@ -1,5 +1,5 @@
 //! The explanation of the body `too_many_steps`.
-pub const TEXT: &str = r#"failed: too many operations, at event 31
+pub(crate) const TEXT: &str = r#"failed: too many operations, at event 31
   the threads of a run may hand over 30 operations (`max_steps`): this is one more
   a loop that waits wants a `yield_now` in each turn; else raise `max_steps`
 replay: t1 t1 l0 t1 t1 l0 t1 t1 l0 t1 t1 l0 t1 t1 l0 t1 t1 l0 t1 t1 l0 t1 t1 l0 t1 t1 l0 t1 t1 l0 t1

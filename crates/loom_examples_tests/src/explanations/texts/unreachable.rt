@@ -1,5 +1,5 @@
 //! The explanation of the body `unreachable`.
-pub const TEXT: &str = r#"failed: unreachable code, at event 3 (states.rs:12)
+pub(crate) const TEXT: &str = r#"failed: unreachable code, at event 3 (states.rs:12)
   thread 0 came to code that is never to be reached ("the state is 0 or 1", states.rs:12)
   it came there by the reply to its operation at event 2
 replay: t0

@@ -96,7 +96,7 @@ impl Views {
         }
     }
 
-    /// The same views. An error where memory is refused.
+    /// These views in little room, with the counts that they have in place of ranks. An error where memory is refused.
     fn packed(&self, alloc: Global) -> Result<RankedViews, AllocError>
         ensures { IfOk result (λ packed. packed ≡ self.now) }
     {
