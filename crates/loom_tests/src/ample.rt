@@ -247,19 +247,27 @@ fn are_all_messages(reply: &Reply<u64>) -> bool {
 // How many nodes a run may have before that of its end.
 const NODES: u64 = 999;
 
+fn guards_are_taken(rt: &impl Abort, run: &mut Run) {
+    for _ in 0..NODES {
+        let lock = RwLock { number: 0 };
+        let is_read = answers!(run, lock.read(), Reply::ReadLocked(0, 3));
+        holds(rt, is_read, "a guard more");
+    }
+}
+
+fn guards_are_released(rt: &impl Abort, run: &mut Run) {
+    for _ in 0..NODES {
+        let guard = RwLockReadGuard { number: 0 };
+        holds(rt, run.is_done(guard.release()), "a guard less");
+    }
+}
+
 #[test]
 fn a_thread_has_a_guard_at_each_node(rt: HostRuntime) {
     let mut run = Run::new(&rt);
-    let lock = RwLock { number: 0 };
     holds(&rt, run.is_answered(RwLock::new(3)), "a lock");
-    for _ in 0..NODES {
-        let is_read = answers!(run, lock.read(), Reply::ReadLocked(0, 3));
-        holds(&rt, is_read, "a guard more");
-    }
-    for _ in 0..NODES {
-        let guard = RwLockReadGuard { number: 0 };
-        holds(&rt, run.is_done(guard.release()), "a guard less");
-    }
+    guards_are_taken(&rt, &mut run);
+    guards_are_released(&rt, &mut run);
     holds(&rt, run.ends(7, 1000), "main ends without a guard");
     run.let_go();
 }

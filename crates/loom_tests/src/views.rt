@@ -1,4 +1,6 @@
 //! Small histories of views: what may be read after what, and what races.
+ghost use Rattle.std.specs.Prelude.{◌<◌};
+
 use crate::asserting::{holds, same};
 use crate::views::Call::{
     Acquire, AcquireFromStamp, AddAtomic, AddCell, AddPoint, AddStamp, Fence, JoinThread, Load,
@@ -422,13 +424,18 @@ fn parts_of_views_are_as_they_are_told(rt: HostRuntime) {
 // A vector with these counts of threads 0 and 1.
 fn counted(rt: &impl Abort, zero: usize, one: usize) -> VersionVec {
     let mut vector = VersionVec::new();
-    for _ in 0..zero {
-        holds(rt, vector.inc(0), "a raise of thread 0");
-    }
-    for _ in 0..one {
-        holds(rt, vector.inc(1), "a raise of thread 1");
-    }
+    raise_often(rt, &mut vector, 0, zero);
+    raise_often(rt, &mut vector, 1, one);
     vector
+}
+
+// Raises the thread's version so many times.
+fn raise_often(rt: &impl Abort, vector: &mut VersionVec, thread: usize, times: usize)
+    requires { thread < 5 }
+{
+    for _ in 0..times {
+        holds(rt, vector.inc(thread), "a raise of a version");
+    }
 }
 
 // A thread that waits for another value of the atomic.
