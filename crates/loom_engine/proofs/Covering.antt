@@ -43,3 +43,4 @@ pub mod Spread
 pub mod Returning
 pub mod Spreading
 pub mod Adding
+pub mod Trails

@@ -13,6 +13,7 @@ pub mod Seen
 pub mod Points
 pub mod Sight
 pub mod Parts
+pub mod Trails
 pub mod Kept
 pub mod UnderWay
 pub mod Spread

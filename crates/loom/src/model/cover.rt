@@ -31,13 +31,13 @@ use log::Log;
 use loom_engine::rt::path::Path;
 use loom_engine::rt::path::choices::ChoiceList;
 use loom_engine::rt::states::States;
+use loom_engine::rt::states::trails::Trails;
 use loom_engine::rt::states::ways::Ways;
 use loom_objects::body::Body;
 use loom_objects::choice::Choice;
 use loom_objects::failure::Failure;
 use loom_views::rt::failure::FailureKind;
 use loom_views::same::Same;
-use loom_views::sequence::Sequence;
 use std::alloc::{AllocError, Global};
 
 /// So many states are noted at most, where nothing else is said: with some kilobytes each they take a gigabyte at most.
@@ -318,7 +318,7 @@ pub(crate) fn told(
     alloc: Global,
     runs: u64,
     met: u64,
-    led_by: &[Sequence<Choice>],
+    led_by: &Trails,
     ways: &Ways,
 ) -> Result<Covered, AllocError>
     ensures { IfOk result (IsToldBy ways.now.ways led_by.now runs) }
@@ -330,7 +330,7 @@ pub(crate) fn told(
             runs,
             met,
             states,
-            choices: led_by[lost].try_clone(alloc)?.into_vec(),
+            choices: led_by.choices(alloc, lost)?,
         }),
     }
 }

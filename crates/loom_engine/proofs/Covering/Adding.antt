@@ -1,7 +1,7 @@
 -- States that are added to a table, which are those of another.
-use Rattle.std.proofs.Common.{◌≡◌, ◌<◌, ◌+◌, ◌⊎◌, Bool, ℕ, zero, suc, arith, append_assoc, List, [], ◌∷◌, ◌++◌, length, map, Option, Some, None, Result, refl, ap, sym, ◌∙◌, subst, inl, inr, length-append}
+use Rattle.std.proofs.Common.{◌≡◌, ◌<◌, ◌+◌, ◌⊎◌, Bool, ℕ, zero, suc, arith, append_assoc, List, [], ◌∷◌, ◌++◌, length, map, Option, Some, None, refl, ap, sym, ◌∙◌, subst, inl, inr, length-append}
 use Rattle.std.specs.List.{Contains}
-use Rattle.std.specs.Prelude.{IfOk, IfSome, SomeIff, slice_get, ⊤}
+use Rattle.std.specs.Prelude.{IfSome, SomeIff, slice_get}
 use Rattle.loom_objects.specs.declared.choice.Choice.{Choice}
 use Rattle.loom_engine.specs.Walk.Driven.{IsOneOf}
 use Rattle.loom_engine.specs.Walk.Path.{Stored}
@@ -97,9 +97,11 @@ module _ {X : Type 0} where
 
 -- ---- tables
 
-pub notes_so : {D S E : Type 0} (old new : Noted D S) (state other : Kept D S) (c d : List Choice) → state ≡ other → c ≡ d → (result : Result ⊤ E) → IfOk result (λ _. NotesAs state c old new) → IfOk result (λ _. NotesAs other d old new)
-notes_so old new state other c d e f result h =
-    subst (λ (s : Kept _ _). IfOk result (λ _. NotesAs s d old new)) e (subst (λ (l : List Choice). IfOk result (λ _. NotesAs state l old new)) f h)
+-- a table that is the same before and after notes the same
+pub noted_so : {D S : Type 0} (old one two new : Noted D S) (state other : Kept D S) (c d : List Choice) → state ≡ other → c ≡ d → one ≡ old → new ≡ two → NotesAs state c one two → NotesAs other d old new
+noted_so old one two new state other c d e f g h notes =
+    subst (λ (n : Noted _ _). NotesAs other d old n) (sym h)
+    (subst (λ (n : Noted _ _). NotesAs other d n two) g (subst (λ (s : Kept _ _). NotesAs s d one two) e (subst (λ (l : List Choice). NotesAs state l one two) f notes)))
 
 module _ {D S : Type 0} (never : Bool) (key : List Choice → Key D S) (left : List (List Stored)) where
   -- one state, with the choices that led a run to it

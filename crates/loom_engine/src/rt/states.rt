@@ -1,5 +1,6 @@
 //! States that a search remembers: copies of runs at branch points, with which later runs are compared.
 pub(crate) mod shelves;
+pub mod trails;
 pub mod ways;
 
 ghost use Rattle.std.specs.Prelude.{◌≡◌, [], IfOk, IfSome, IsTrue, ◌++◌, Bool, List, length, slice_get, Some};
@@ -16,6 +17,7 @@ use crate::rt::execution::Execution;
 use crate::rt::path::Path;
 use crate::rt::path::choices::ChoiceList;
 use crate::rt::states::shelves::Shelves;
+use crate::rt::states::trails::Trails;
 use loom_objects::body::Body;
 use loom_objects::choice::Choice;
 use loom_objects::data::Data;
@@ -166,7 +168,7 @@ pub(crate) fn copied_bodies<B: Body>(alloc: Global, bodies: &[B]) -> Result<Sequ
 #[derive(Drop)]
 pub struct States<D, B> {
     states: Sequence<State<D, B>>,
-    led_by: Sequence<Sequence<Choice>>,
+    led_by: Trails,
     // their numbers by the digests of their views
     chains: Chains,
     shelves: Shelves<D, B>,
@@ -195,7 +197,7 @@ impl<D: Data + Same, B: Body + Same> States<D, B> {
     {
         Ok(States {
             states: Sequence::new(alloc),
-            led_by: Sequence::new(alloc),
+            led_by: Trails::new(alloc),
             chains: Chains::new(alloc)?,
             shelves: Shelves::new(alloc)?,
             spare: None,
@@ -212,7 +214,7 @@ impl<D: Data + Same, B: Body + Same> States<D, B> {
     {
         States {
             states: Sequence::new(alloc),
-            led_by: Sequence::new(alloc),
+            led_by: Trails::new(alloc),
             chains: Chains::none(alloc),
             shelves: Shelves::none(alloc),
             spare: None,
@@ -243,10 +245,10 @@ impl<D: Data + Same, B: Body + Same> States<D, B> {
     }
 
     /// Which choices led a run to each state that was noted.
-    pub fn led_by(&self) -> &[Sequence<Choice>]
+    pub fn led_by(&self) -> &Trails
         ensures { result.now ≡ self.now.led_by }
     {
-        self.led_by.as_slice()
+        &self.led_by
     }
 
     /// The number of the state that the run is in, which reached it along the path, if it was noted: in another table, or behind its states
@@ -372,11 +374,13 @@ impl<D: Data + Same, B: Body + Same> States<D, B> {
         }
         let state = self.kept(execution, bodies, views)?;
         let choices = self.choices_along(path)?;
-        self.add(state, digest, choices)
+        self.add(state, digest, choices.as_slice())?;
+        self.keep_choices(choices);
+        Ok(())
     }
 
     /// The choices that the run has made along its path. Nothing is noted. An error where memory is refused.
-    fn choices_along(&mut self, path: &Path) -> Result<Sequence<Choice>, AllocError>
+    fn choices_along(&mut self, path: &Path) -> Result<ChoiceList, AllocError>
         ensures choices { IfOk result (λ choices. choices ≡ chosen path.now) }
         ensures same { self.new ≡ self.old }
     {
@@ -384,10 +388,14 @@ impl<D: Data + Same, B: Body + Same> States<D, B> {
             Some(made) => made,
             None => ChoiceList::new(self.alloc),
         };
-        let made = path.choices_after(before)?;
-        let choices = Vec::from_slice(self.alloc, made.as_slice())?;
+        path.choices_after(before)
+    }
+
+    /// These are the choices in whose room the next ones are listed.
+    fn keep_choices(&mut self, made: ChoiceList)
+        ensures { self.new ≡ self.old }
+    {
         self.made = Some(made);
-        Ok(Sequence::from_vec(choices))
     }
 
     /// What is kept of the run, with these views in place of its own. Nothing is noted. An error where memory is refused.
@@ -417,26 +425,24 @@ impl<D: Data + Same, B: Body + Same> States<D, B> {
         ensures { IfOk result (λ _. (never : Bool) (key : List Chosen → Key D B) (left : List (List Stored)) → IsTableOf never key left self.old → IsTableOf never key left other → IsTableOf never key left self.new) }
     {
         let chains = other.chains;
+        let alloc = other.alloc;
         let mut states = other.states.into_vec();
-        let mut led_by = other.led_by.into_vec();
+        let led_by = other.led_by;
+        let count = led_by.len();
         'join: while let Some(state) = states.pop() {
-            let Some(choices) = led_by.pop() else {
+            let number = states.len();
+            if number >= count {
                 return Ok(());
-            };
-            let digest = chains.digest(states.len());
-            self.add(state, digest, choices)?;
+            }
+            let choices = led_by.choices(alloc, number)?;
+            self.add(state, chains.digest(number), choices.as_slice())?;
         }
         Ok(())
     }
 
     /// Adds a state to which a run came by these choices, and the digest of its views, if there may be one more.
-    fn add(
-        &mut self,
-        state: State<D, B>,
-        digest: u64,
-        choices: Sequence<Choice>,
-    ) -> Result<(), AllocError>
-        ensures { IfOk result (λ _. NotesAs state choices self.old self.new) }
+    fn add(&mut self, state: State<D, B>, digest: u64, choices: &[Choice]) -> Result<(), AllocError>
+        ensures { IfOk result (λ _. NotesAs state choices.now self.old self.new) }
     {
         if self.states.len() >= self.most {
             return Ok(());

@@ -1,9 +1,10 @@
 //! Ways between the states that a search remembers: a state from which none leads to a run's end is one from which no run ends.
-ghost use Rattle.std.specs.Prelude.{ℕ, ◌≡◌, ◌<◌, ◌↔◌, [], IfOk, IsFalse, IsTrue, length, slice_get, Some, true};
-ghost use Rattle.loom_engine.specs.Covering.Between.{AddsRun, AddsWithin, AreClosed, AreReaching, IsClosed, IsFirstLost, IsFirstUnset, IsLastPassed, IsReady, IsSetBy, IsWhole, LeavesOthers, Passes, PassesOn, unset};
+ghost use Rattle.std.specs.Prelude.{ℕ, ◌≡◌, ◌<◌, ◌↔◌, [], IfOk, IsFalse, IsTrue, List, length, slice_get, Some, true};
+ghost use Rattle.loom_objects.specs.declared.choice.Choice.{Choice as Chosen};
+ghost use Rattle.loom_engine.specs.Covering.Between.{AddsRun, AddsWithin, AreClosed, AreReaching, IsClosed, IsFirstLost, IsFirstUnset, IsLastPassed, IsReady, IsSetBy, IsWhole, LeavesOthers, PassesOn, unset};
 
+use crate::rt::states::trails::Trails;
 use loom_objects::choice::Choice;
-use loom_views::sequence::Sequence;
 use std::alloc::{AllocError, Global};
 use std::marker::Model;
 
@@ -48,7 +49,7 @@ impl Ways {
     /// `first` on. An error where memory is refused (own).
     pub fn add_run(
         &mut self,
-        led_by: &[Sequence<Choice>],
+        led_by: &Trails,
         first: usize,
         made: &[Choice],
         to: Option<usize>,
@@ -57,7 +58,8 @@ impl Ways {
         ensures whole { IfOk result (λ _. IsReady led_by.now made.now first self.old → IsWhole led_by.now made.now first to self.old self.new) }
     {
         self.leave(led_by, made);
-        for number in first..led_by.len() {
+        let count = led_by.len();
+        for number in first..count {
             self.pass(led_by, made, number)?;
         }
         match self.last_passed(led_by, made) {
@@ -70,7 +72,7 @@ impl Ways {
     }
 
     /// Leaves the states that such a run hasn't passed, from the last one back.
-    fn leave(&mut self, led_by: &[Sequence<Choice>], made: &[Choice])
+    fn leave(&mut self, led_by: &Trails, made: &[Choice])
         ensures { LeavesOthers led_by.now made.now self.old self.new }
     {
         'leaving: loop {
@@ -85,20 +87,15 @@ impl Ways {
     }
 
     /// Such a run has passed the state of this number, if it has, with a way from the last one before it.
-    fn pass(
-        &mut self,
-        led_by: &[Sequence<Choice>],
-        made: &[Choice],
-        number: usize,
-    ) -> Result<(), AllocError>
+    fn pass(&mut self, led_by: &Trails, made: &[Choice], number: usize) -> Result<(), AllocError>
         requires { number < length led_by.now }
         ensures adds { IfOk result (λ _. AddsWithin led_by.now made.now self.old.ways self.new.ways) }
         ensures on { IfOk result (λ _. PassesOn led_by.now made.now number self.old self.new) }
     {
-        if !passes(led_by, made, number) {
+        if !led_by.passes(made, number) {
             return Ok(());
         }
-        if let Some(from) = self.last_passed(led_by, led_by[number].as_slice()) {
+        if let Some(from) = self.last_on_way(led_by, number) {
             let to = Some(number);
             self.list.push(Way { from, to })?;
         }
@@ -107,12 +104,28 @@ impl Ways {
     }
 
     /// The last state that was passed, if such a run passes it.
-    fn last_passed(&self, led_by: &[Sequence<Choice>], made: &[Choice]) -> Option<usize>
+    fn last_passed(&self, led_by: &Trails, made: &[Choice]) -> Option<usize>
         ensures { IsLastPassed led_by.now made.now self.now.passed result }
     {
         match self.passed.last() {
             Some(last) => {
-                if passes(led_by, made, *last) {
+                if led_by.passes(made, *last) {
+                    return Some(*last);
+                }
+                None
+            }
+            None => None,
+        }
+    }
+
+    /// The last state that was passed, if a run passes it that comes to the state of this number.
+    fn last_on_way(&self, led_by: &Trails, number: usize) -> Option<usize>
+        requires { number < length led_by.now }
+        ensures { (there : List Chosen) → slice_get led_by.now number ≡ Some there → IsLastPassed led_by.now there self.now.passed result }
+    {
+        match self.passed.last() {
+            Some(last) => {
+                if led_by.is_on_way(*last, number) {
                     return Some(*last);
                 }
                 None
@@ -134,16 +147,6 @@ impl Ways {
         }
         Ok(first_unset(&set))
     }
-}
-
-/// Whether who makes these choices passes the state of this number.
-fn passes(led_by: &[Sequence<Choice>], made: &[Choice], number: usize) -> bool
-    ensures { IsTrue result ↔ Passes led_by.now made.now number }
-{
-    if number >= led_by.len() {
-        return false;
-    }
-    made.starts_with(led_by[number].as_slice())
 }
 
 /// Goes over the ways once, from the last one back, and sets each state from which one leads to an end, or to a state that is set. Whether

@@ -1,20 +1,16 @@
-use Rattle.std.proofs.Common.{◌≡◌, length, Some, ap, refl, sym, ◌∙◌}
-use Rattle.std.specs.Prelude.{slice_get}
+use Rattle.std.proofs.Common.{◌≡◌, ◌<◌, length, None, Some, refl, subst}
 use Rattle.loom_engine.specs.Covering.Between.{IsFirstLost}
-use Rattle.loom_engine.proofs.Covering.Between.{at_of}
 use Rattle.loom.proofs.model.cover.told.Goals as goal
 
 pub returns-in-None : goal.returns-in-None
-returns-in-None c = (refl, rw c.in-None.is at c.in_ok-first_lost.ensures)
+returns-in-None c = (refl, subst (λ n. IsFirstLost c.args.ways.now.ways n None) c.len-states.ensures (rw c.in-None.is at c.in_ok-first_lost.ensures))
 
-pub bounds-led_by-lost : goal.bounds-led_by-lost
-bounds-led_by-lost c = let first : IsFirstLost c.args.ways.now.ways (length c.args.led_by.now) (Some c.in-Some.lost) = rw c.in-Some.is at c.in_ok-first_lost.ensures in first.0
+pub choices-requires : goal.choices-requires
+choices-requires c =
+    let first : IsFirstLost c.args.ways.now.ways c.len-states.result (Some c.in-Some.lost) = rw c.in-Some.is at c.in_ok-first_lost.ensures in
+    subst (λ n. c.in-Some.lost < n) c.len-states.ensures first.0
 
-pub returns-in_ok-try_clone-in-Some : goal.returns-in_ok-try_clone-in-Some
-returns-in_ok-try_clone-in-Some c =
-    let led_by = c.args.led_by.now in
-    let lost = c.in-Some.lost in
-    let first : IsFirstLost c.args.ways.now.ways (length led_by) (Some lost) = rw c.in-Some.is at c.in_ok-first_lost.ensures in
-    let item = c.index-led_by-lost in
-    let at : slice_get led_by lost ≡ Some c.into_vec.result.items = at_of led_by lost item.result first.0 (sym item.is) ∙ ap Some (sym (c.into_vec.ensures ∙ c.in_ok-try_clone-in-Some.ensures)) in
-    (refl, lost, first, at)
+pub returns-in_ok-choices-in-Some : goal.returns-in_ok-choices-in-Some
+returns-in_ok-choices-in-Some c =
+    let first : IsFirstLost c.args.ways.now.ways c.len-states.result (Some c.in-Some.lost) = rw c.in-Some.is at c.in_ok-first_lost.ensures in
+    (refl, c.in-Some.lost, subst (λ n. IsFirstLost c.args.ways.now.ways n (Some c.in-Some.lost)) c.len-states.ensures first, c.in_ok-choices-in-Some.ensures)

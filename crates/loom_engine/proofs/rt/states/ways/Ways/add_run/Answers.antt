@@ -43,7 +43,7 @@ returns-in_ok-push-in-Some-clause-whole c = λ ready.
     let old = c.args.self.now in
     let mid = c.loop-number.self in
     let low : c.args.first ≤ length led_by = ready.low in
-    let over : c.loop-number.number ≡ length led_by = omega (arith, c.loop-number.auto.number-end) in
+    let over : c.loop-number.number ≡ length led_by = omega (arith, c.loop-number.auto.number-end, c.len-count.ensures) in
     ends_there led_by made c.args.first c.in-Some.from c.args.to old mid c.push.new.self.items c.self.inside.passed.items (subst (λ k. Passing led_by made c.args.first k old mid) over c.loop-number.invariant.passing) c.in-Some.ensures
     (c.in_ok-push-in-Some.ensures.items ∙ ap (λ t. t.ways ++ record { from = c.in-Some.from; to = c.args.to } ∷ []) c.self.view_is) (ap (λ t. t.passed) c.self.view_is) ready
 
@@ -54,5 +54,5 @@ returns-in-None-clause-whole c = λ ready.
     let old = c.args.self.now in
     let mid = c.loop-number.self in
     let low : c.args.first ≤ length led_by = ready.low in
-    let over : c.loop-number.number ≡ length led_by = omega (arith, c.loop-number.auto.number-end) in
+    let over : c.loop-number.number ≡ length led_by = omega (arith, c.loop-number.auto.number-end, c.len-count.ensures) in
     ends_nowhere led_by made c.args.first c.args.to old mid (subst (λ k. Passing led_by made c.args.first k old mid) over c.loop-number.invariant.passing) (rw c.in-None.is at c.last_passed.ensures) ready
