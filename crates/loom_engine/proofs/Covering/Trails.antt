@@ -1,5 +1,5 @@
 -- Lists of choices that are kept as a tree: where they lead, how they begin, and that they stay as more come.
-use Rattle.std.proofs.Common.{◌≡◌, ◌<◌, ◌≤◌, ◌+◌, ◌-◌, ◌⊎◌, ℕ, zero, suc, arith, Bool, true, false, List, [], ◌∷◌, ◌++◌, length, map, reverse, take, drop, slice_get, unwrap_or, Option, Some, refl, ap, ap₂, sym, ◌∙◌, subst, inl, inr, append_assoc, append-nil, length-append, take_all, take_at}
+use Rattle.std.proofs.Common.{◌≡◌, ◌<◌, ◌≤◌, ◌+◌, ◌-◌, ◌⊎◌, ℕ, zero, suc, arith, Bool, true, false, List, [], ◌∷◌, ◌++◌, length, map, reverse, take, drop, slice_get, unwrap_or, Option, Some, Result, Ok, Err, OnErr, refl, ap, ap₂, sym, ◌∙◌, subst, inl, inr, append_assoc, append-nil, length-append, take_all, take_at}
 use Rattle.std.proofs.lemmas.List.{length-map, map_push, nil_from_length, reverse-append, same_from_push}
 use Rattle.loom_objects.specs.declared.choice.Choice.{Choice}
 use Rattle.loom_engine.specs.declared.rt.states.trails.Last.{Last}
@@ -56,6 +56,11 @@ module _ {X : Type 0} where
   got_map f [] k x e = absurd (cc e)
   got_map f (y ∷ xs) zero x e = let same : y ≡ x = cc e in ap (λ (z : X). Some (f z)) same
   got_map f (y ∷ xs) (suc k) x e = got_map f xs k x e
+
+-- what holds besides holds where there is an error
+pub on_err : {A E : Type 0} (r : Result A E) (P : Type 0) → P → OnErr r P
+on_err (Ok x) P p = tt
+on_err (Err e) P p = p
 
 -- ---- what steps lead to
 

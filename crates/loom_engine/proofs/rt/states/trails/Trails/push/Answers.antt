@@ -1,6 +1,6 @@
 use Rattle.std.proofs.Common.{◌≡◌, [], ◌∷◌, ◌++◌, ap, sym, ◌∙◌, subst}
 use Rattle.loom_engine.specs.Covering.Trails.{AreTrails, IsLead, IsOneOrNone, lists_of}
-use Rattle.loom_engine.proofs.Covering.Trails.{lead_of, lists_kept, lists_more, trails_kept, trails_more}
+use Rattle.loom_engine.proofs.Covering.Trails.{lead_of, lists_kept, lists_more, on_err, trails_kept, trails_more}
 use Rattle.loom_engine.proofs.rt.states.trails.Trails.push.Goals as goal
 
 pub shared-from-requires-clause-lead : goal.shared-from-requires-clause-lead
@@ -12,7 +12,7 @@ pub invariant_of-self : goal.invariant_of-self
 invariant_of-self c = trails_kept c.self.inside.steps c.self.inside.leads c.self.invariant c.walk_on.new.steps c.walk_on.ensures.keeps c.walk_on.ensures.well
 
 pub returns-in_err-lead-clause-err : goal.returns-in_err-lead-clause-err
-returns-in_err-lead-clause-err c = lists_kept c.self.inside.steps c.walk_on.new.steps c.self.inside.leads c.self.invariant c.walk_on.ensures.keeps ∙ c.self.view_is
+returns-in_err-lead-clause-err c = on_err c.from_residual.result _ (lists_kept c.self.inside.steps c.walk_on.new.steps c.self.inside.leads c.self.invariant c.walk_on.ensures.keeps ∙ c.self.view_is)
 
 -- no memory for where they lead
 pub invariant_of-self-in-Break-branch-2 : goal.invariant_of-self-in-Break-branch-2
@@ -21,7 +21,8 @@ invariant_of-self-in-Break-branch-2 c =
 
 pub returns-in_err-push-clause-err : goal.returns-in_err-push-clause-err
 returns-in_err-push-clause-err c =
-    ap (lists_of c.walk_on.new.steps) c.in_err-push.ensures.err ∙ lists_kept c.self.inside.steps c.walk_on.new.steps c.self.inside.leads c.self.invariant c.walk_on.ensures.keeps ∙ c.self.view_is
+    on_err c.from_residual-in_err-push.result _
+    (ap (lists_of c.walk_on.new.steps) c.in_err-push.ensures.err ∙ lists_kept c.self.inside.steps c.walk_on.new.steps c.self.inside.leads c.self.invariant c.walk_on.ensures.keeps ∙ c.self.view_is)
 
 -- one list more
 pub invariant_of-self-2 : goal.invariant_of-self-2
