@@ -1,5 +1,5 @@
 -- States that are added to a table, which are those of another.
-use Rattle.std.proofs.Common.{◌≡◌, ◌<◌, ◌+◌, ◌⊎◌, Bool, ℕ, zero, suc, arith, append_assoc, List, [], ◌∷◌, ◌++◌, length, map, Option, Some, None, refl, ap, sym, ◌∙◌, subst, inl, inr, length-append}
+use Rattle.std.proofs.Common.{◌≡◌, ◌<◌, ◌+◌, ◌⊎◌, Bool, ℕ, zero, suc, min, arith, append_assoc, List, [], ◌∷◌, ◌++◌, length, map, take, drop, Option, Some, None, refl, ap, sym, ◌∙◌, subst, inl, inr, length-append, length-take, take-append-drop}
 use Rattle.std.specs.List.{Contains}
 use Rattle.std.specs.Prelude.{IfSome, SomeIff, slice_get}
 use Rattle.loom_objects.specs.declared.choice.Choice.{Choice}
@@ -9,7 +9,6 @@ use Rattle.loom_engine.specs.declared.rt.states.State.{State as Kept}
 use Rattle.loom_engine.specs.Covering.Kept.{AreKeptAfter, FindsOrNotes, IsKeptOf, Key, Noted, NotesAs, beside}
 use Rattle.loom_engine.specs.Covering.Spread.{IsTableOf}
 use Rattle.loom_engine.specs.Covering.UnderWay.{HasNode}
-use Rattle.loom_engine.proofs.Covering.Kept.{has_at}
 
 -- ---- lists
 
@@ -18,17 +17,6 @@ module _ {X : Type 0} where
   got_front [] ys k x e = absurd (cc e)
   got_front (y ∷ xs) ys zero x e = e
   got_front (y ∷ xs) ys (suc k) x e = got_front xs ys k x e
-
-  -- what a list with one more has at a place
-  got_more : (xs : List X) (y : X) (k : ℕ) (x : X) → slice_get (xs ++ y ∷ []) k ≡ Some x → (slice_get xs k ≡ Some x) ⊎ ((k ≡ length xs) × (y ≡ x))
-  got_more [] y zero x e = inr (refl, cc e)
-  got_more [] y (suc k) x e = absurd (cc e)
-  got_more (z ∷ xs) y zero x e = inl e
-  got_more (z ∷ xs) y (suc k) x e = by (got_more xs y k x e)
-    where
-      by : (slice_get xs k ≡ Some x) ⊎ ((k ≡ length xs) × (y ≡ x)) → (slice_get xs k ≡ Some x) ⊎ ((suc k ≡ suc (length xs)) × (y ≡ x))
-      by (inl h) = inl h
-      by (inr (i, h)) = inr (ap suc i, h)
 
   got_on : (xs ys : List X) (k n : ℕ) (x : X) → n ≡ length xs + k → slice_get ys k ≡ Some x → slice_get (xs ++ ys) n ≡ Some x
   got_on [] ys k n x i e = let s : k ≡ n = omega (arith, i) in subst (λ (m : ℕ). slice_get ys m ≡ Some x) s e
@@ -55,25 +43,6 @@ module _ {X : Type 0} where
       by (inl h) = inl h
       by (inr (j, i, h)) = inr (j, omega (arith, i), h)
 
-  last_there : (xs : List X) (y : X) → slice_get (xs ++ y ∷ []) (length xs) ≡ Some y
-  last_there [] y = refl
-  last_there (z ∷ xs) y = last_there xs y
-
-  got_within : (xs : List X) (k : ℕ) (x : X) → slice_get xs k ≡ Some x → k < length xs
-  got_within [] k x e = absurd (cc e)
-  got_within (y ∷ xs) zero x e = omega arith
-  got_within (y ∷ xs) (suc k) x e = let l = got_within xs k x e in omega (arith, l)
-
-  has_more : (xs : List X) (y x : X) → Contains (xs ++ y ∷ []) x → Contains xs x ⊎ (y ≡ x)
-  has_more [] y x (zero, l, e) = inr e
-  has_more [] y x (suc k, l, e) = absurd (omega (arith, l))
-  has_more (z ∷ xs) y x (zero, l, e) = inl (0, omega arith, e)
-  has_more (z ∷ xs) y x (suc k, l, e) = by (has_more xs y x (k, omega (arith, l), e))
-    where
-      by : Contains xs x ⊎ (y ≡ x) → Contains (z ∷ xs) x ⊎ (y ≡ x)
-      by (inl (j, m, f)) = inl (suc j, omega (arith, m), f)
-      by (inr f) = inr f
-
   has_front : (xs ys : List X) (x : X) → Contains xs x → Contains (xs ++ ys) x
   has_front [] ys x (k, l, e) = absurd (omega (arith, l))
   has_front (y ∷ xs) ys x (zero, l, e) = (0, omega arith, e)
@@ -92,8 +61,21 @@ module _ {X : Type 0} where
       further (inl (j, m, f)) = inl (suc j, omega (arith, m), f)
       further (inr h) = inr h
 
-  has_last : (xs : List X) (y : X) → Contains (xs ++ y ∷ []) y
-  has_last xs y = has_at (xs ++ y ∷ []) (length xs) y (last_there xs y)
+  -- what the first so many of a list are
+  got_taken : (xs : List X) (n k : ℕ) → k < n → slice_get (take n xs) k ≡ slice_get xs k
+  got_taken xs zero k l = absurd (omega (arith, l))
+  got_taken [] (suc n) k l = refl
+  got_taken (x ∷ xs) (suc n) zero l = refl
+  got_taken (x ∷ xs) (suc n) (suc k) l = got_taken xs n k (omega (arith, l))
+
+  taken_within : (xs : List X) (n k : ℕ) (x : X) → slice_get (take n xs) k ≡ Some x → k < n
+  taken_within xs zero k x e = absurd (cc e)
+  taken_within [] (suc n) k x e = absurd (cc e)
+  taken_within (y ∷ xs) (suc n) zero x e = omega arith
+  taken_within (y ∷ xs) (suc n) (suc k) x e = let l = taken_within xs n k x e in omega (arith, l)
+
+  has_taken : (xs : List X) (n : ℕ) (x : X) → Contains (take n xs) x → Contains xs x
+  has_taken xs n x h = subst (λ (l : List X). Contains l x) (take-append-drop n xs) (has_front (take n xs) (drop n xs) x h)
 
 -- ---- tables
 
@@ -102,87 +84,6 @@ pub noted_so : {D S : Type 0} (old one two new : Noted D S) (state other : Kept 
 noted_so old one two new state other c d e f g h notes =
     subst (λ (n : Noted _ _). NotesAs other d old n) (sym h)
     (subst (λ (n : Noted _ _). NotesAs other d n two) g (subst (λ (s : Kept _ _). NotesAs s d one two) e (subst (λ (l : List Choice). NotesAs state l one two) f notes)))
-
-module _ {D S : Type 0} (never : Bool) (key : List Choice → Key D S) (left : List (List Stored)) where
-  -- one state, with the choices that led a run to it
-  pub record IsOne (one : Kept D S) (c : List Choice) : Type 0 where
-    pub kept : IsKeptOf never one (key c)
-    pub node : (q : List Stored) × IsOneOf q left × HasNode q c
-
-  -- it is one more of those in the table
-  pub one_added : (old new : Noted D S) (one : Kept D S) (c : List Choice) → IsTableOf never key left old → IsOne one c → NotesAs one c old new → IsTableOf never key left new
-  one_added old new one c t is (inr same) = subst (IsTableOf never key left) (sym same) t
-  one_added old new one c t is (inl (states, led_by, same)) = record {
-    same = here;
-    kept = record {
-      counted = ap length led_by ∙ length-append old.led_by (c ∷ []) ∙ ap (λ (n : ℕ). n + 1) t.kept.counted ∙ sym (length-append old.states (one ∷ [])) ∙ sym (ap length states);
-      each = λ k x at. by k x (got_more old.states one k x (ap (λ (l : List (Kept D S)). slice_get l k) (sym states) ∙ at));
-    };
-    nodes = λ d has. there d (has_more old.led_by c d (subst (λ (l : List (List Choice)). Contains l d) led_by has));
-  }
-    where
-      here : new.never ≡ never
-      here = same ∙ t.same
-
-      by : (k : ℕ) (x : Kept D S) → (slice_get old.states k ≡ Some x) ⊎ ((k ≡ length old.states) × (one ≡ x)) → (d : List Choice) × (slice_get new.led_by k ≡ Some d) × IsKeptOf new.never x (key d)
-      by k x (inl at) =
-          let z = t.kept.each k x at in
-          (z.0, ap (λ (l : List (List Choice)). slice_get l k) led_by ∙ got_front old.led_by (c ∷ []) k z.0 z.1, subst (λ (n : Bool). IsKeptOf n x (key z.0)) (sym same) z.2)
-      by k x (inr (last, is_one)) = (
-        c,
-        ap (λ (l : List (List Choice)). slice_get l k) led_by ∙ ap (λ (n : ℕ). slice_get (old.led_by ++ c ∷ []) n) (last ∙ sym t.kept.counted) ∙ last_there old.led_by c,
-        subst (λ (y : Kept D S). IsKeptOf new.never y (key c)) is_one (subst (λ (n : Bool). IsKeptOf n one (key c)) (sym here) is.kept),
-      )
-
-      there : (d : List Choice) → Contains old.led_by d ⊎ (c ≡ d) → (q : List Stored) × IsOneOf q left × HasNode q d
-      there d (inl h) = t.nodes d h
-      there d (inr e) = subst (λ (l : List Choice). (q : List Stored) × IsOneOf q left × HasNode q l) e is.node
-
-  -- a table by its lists
-  pub table_of_lists : (noted : Noted D S) (states : List (Kept D S)) (led_by : List (List Choice)) → noted.states ≡ states → noted.led_by ≡ led_by → IsTableOf never key left noted
-      → IsTableOf never key left (record { states = states; led_by = led_by; never = never })
-  table_of_lists noted states led_by e f t = record {
-    same = refl;
-    kept = record {
-      counted = sym (ap length f) ∙ t.kept.counted ∙ ap length e;
-      each = λ k x at.
-          let z = t.kept.each k x (ap (λ (l : List (Kept D S)). slice_get l k) e ∙ at) in
-          (z.0, ap (λ (l : List (List Choice)). slice_get l k) (sym f) ∙ z.1, subst (λ (n : Bool). IsKeptOf n x (key z.0)) t.same z.2);
-    };
-    nodes = λ d has. t.nodes d (subst (λ (l : List (List Choice)). Contains l d) (sym f) has);
-  }
-
-  -- the last one of a table, and the others
-  pub last_one : (all : List (Kept D S)) (ways : List (List Choice)) (states : List (Kept D S)) (led_by : List (List Choice)) (one : Kept D S) (c : List Choice) → all ≡ states ++ one ∷ [] → ways ≡ led_by ++ c ∷ []
-      → IsTableOf never key left (record { states = all; led_by = ways; never = never })
-      → IsOne one c × IsTableOf never key left (record { states = states; led_by = led_by; never = never })
-  last_one all ways states led_by one c e f t = (
-    record { kept = last_kept; node = t.nodes c (subst (λ (l : List (List Choice)). Contains l c) (sym f) (has_last led_by c)) },
-    record { same = refl; kept = record { counted = size; each = each }; nodes = λ d has. t.nodes d (subst (λ (l : List (List Choice)). Contains l d) (sym f) (has_front led_by (c ∷ []) d has)) },
-  )
-    where
-      size : length led_by ≡ length states
-      size =
-          let whole = t.kept.counted in
-          let a = ap length e ∙ length-append states (one ∷ []) in
-          let b = ap length f ∙ length-append led_by (c ∷ []) in
-          omega (arith, whole, a, b)
-
-      last_kept : IsKeptOf never one (key c)
-      last_kept =
-          let z = t.kept.each (length states) one (ap (λ (l : List (Kept D S)). slice_get l (length states)) e ∙ last_there states one) in
-          let here : slice_get ways (length states) ≡ Some c = ap (λ (l : List (List Choice)). slice_get l (length states)) f ∙ ap (λ (n : ℕ). slice_get (led_by ++ c ∷ []) n) (sym size) ∙ last_there led_by c in
-          let same : z.0 ≡ c = cc (z.1, here) in
-          subst (λ (d : List Choice). IsKeptOf never one (key d)) same z.2
-
-      each : (k : ℕ) (x : Kept D S) → slice_get states k ≡ Some x → (d : List Choice) × (slice_get led_by k ≡ Some d) × IsKeptOf never x (key d)
-      each k x at =
-          let z = t.kept.each k x (ap (λ (l : List (Kept D S)). slice_get l k) e ∙ got_front states (one ∷ []) k x at) in
-          (z.0, front_of z.0 (got_more led_by c k z.0 (ap (λ (l : List (List Choice)). slice_get l k) (sym f) ∙ z.1)), z.2)
-        where
-          front_of : (d : List Choice) → (slice_get led_by k ≡ Some d) ⊎ ((k ≡ length led_by) × (c ≡ d)) → slice_get led_by k ≡ Some d
-          front_of d (inl h) = h
-          front_of d (inr (last, same)) = let l = got_within states k x at in absurd (omega (arith, l, last, size))
 
 -- ---- two tables, one behind the other
 
@@ -206,6 +107,45 @@ module _ {D S : Type 0} (key : List Choice → Key D S) (known : Noted D S) (kep
         let z = all.each (length known.states + j) x (got_behind known.states noted.states j x at) in
         (z.0, behind_got known.led_by noted.led_by j z.0 (ap (λ (n : ℕ). slice_get (known.led_by ++ noted.led_by) (n + j)) kept.counted ∙ z.1), z.2);
   }
+
+module _ {D S : Type 0} (never : Bool) (key : List Choice → Key D S) (left : List (List Stored)) where
+  -- the first so many of a table
+  first_states : (noted : Noted D S) (count : ℕ) → IsTableOf never key left noted → IsTableOf never key left (record { states = take count noted.states; led_by = take count noted.led_by; never = noted.never })
+  first_states noted count t = record {
+    same = t.same;
+    kept = record {
+      counted = length-take count noted.led_by ∙ ap (λ (n : ℕ). min count n) t.kept.counted ∙ sym (length-take count noted.states);
+      each = λ k x at.
+          let low = taken_within noted.states count k x at in
+          let z = t.kept.each k x (sym (got_taken noted.states count k low) ∙ at) in
+          (z.0, got_taken noted.led_by count k low ∙ z.1, z.2);
+    };
+    nodes = λ c has. t.nodes c (has_taken noted.led_by count c has);
+  }
+
+  -- they are a table behind those of another one
+  pub joined_states : (old other : Noted D S) (count : ℕ) (states : List (Kept D S)) (led_by : List (List Choice)) (known : Bool) → IsTableOf never key left old → IsTableOf never key left other → states ≡ old.states ++ take count other.states
+      → led_by ≡ old.led_by ++ take count other.led_by → known ≡ old.never → IsTableOf never key left (record { states = states; led_by = led_by; never = known })
+  joined_states old other count states led_by known t u e f same = record {
+    same = same ∙ t.same;
+    kept = record {
+      counted = ap length f ∙ both.counted ∙ sym (ap length e);
+      each = λ k x at.
+          let z = both.each k x (ap (λ (l : List (Kept D S)). slice_get l k) (sym e) ∙ at) in
+          (z.0, ap (λ (l : List (List Choice)). slice_get l k) f ∙ z.1, subst (λ (n : Bool). IsKeptOf n x (key z.0)) (u.same ∙ sym t.same ∙ sym same) z.2);
+    };
+    nodes = λ c has. by c (has_either old.led_by (take count other.led_by) c (subst (λ (l : List (List Choice)). Contains l c) f has));
+  }
+    where
+      more : IsTableOf never key left (record { states = take count other.states; led_by = take count other.led_by; never = other.never })
+      more = first_states other count u
+
+      both : AreKeptAfter key (beside old (record { states = take count other.states; led_by = take count other.led_by; never = other.never }))
+      both = both_kept key old t.kept (record { states = take count other.states; led_by = take count other.led_by; never = other.never }) (t.same ∙ sym u.same) more.kept
+
+      by : (c : List Choice) → Contains old.led_by c ⊎ Contains (take count other.led_by) c → (q : List Stored) × IsOneOf q left × HasNode q c
+      by c (inl h) = t.nodes c h
+      by c (inr h) = more.nodes c h
 
 -- the states after choices that led to them
 pub key_from : {K : Type 0} (key : List Choice → K) (xs : List (List Choice)) (s : K) → Contains (map key xs) s → (c : List Choice) × Contains xs c × (key c ≡ s)

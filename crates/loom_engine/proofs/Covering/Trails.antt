@@ -1,12 +1,13 @@
 -- Lists of choices that are kept as a tree: where they lead, how they begin, and that they stay as more come.
-use Rattle.std.proofs.Common.{◌≡◌, ◌<◌, ◌≤◌, ◌+◌, ◌-◌, ◌⊎◌, ℕ, zero, suc, arith, Bool, true, false, List, [], ◌∷◌, ◌++◌, length, map, reverse, take, drop, slice_get, unwrap_or, Option, Some, Result, Ok, Err, OnErr, refl, ap, ap₂, sym, ◌∙◌, subst, inl, inr, append_assoc, append-nil, length-append, take_all, take_at}
-use Rattle.std.proofs.lemmas.List.{length-map, map_push, nil_from_length, reverse-append, same_from_push}
+use Rattle.std.proofs.Common.{◌≡◌, ◌<◌, ◌≤◌, ◌+◌, ◌-◌, ◌⊎◌, ℕ, zero, suc, arith, Bool, true, false, List, [], ◌∷◌, ◌++◌, length, map, min, reverse, take, drop, slice_get, unwrap_or, Option, Some, Result, Ok, Err, OnErr, refl, ap, ap₂, sym, ◌∙◌, subst, inl, inr, append_assoc, append-nil, length-append, take_all, take_at}
+use Rattle.std.proofs.lemmas.List.{length-map, map_push, nil_from_length, reverse-append, same_from_push, take_min}
+use native.Mathlib.Decide.{ℕ_discrete}
 use Rattle.loom_objects.specs.declared.choice.Choice.{Choice}
 use Rattle.loom_engine.specs.declared.rt.states.trails.Last.{Last}
 use Rattle.loom_engine.specs.declared.rt.states.trails.Lead.{Lead}
 use Rattle.loom_engine.specs.declared.rt.states.trails.Step.{Step}
 use Rattle.loom_engine.specs.Covering.Between.{Passes}
-use Rattle.loom_engine.specs.Covering.Trails.{AreSteps, AreTrails, BeginsWith, IsCut, IsLast, IsLead, IsOneOrNone, KeepsLists, choices_to, list_at, lists_of, walked}
+use Rattle.loom_engine.specs.Covering.Trails.{AreGrafted, AreMoved, AreSteps, AreTrails, BeginsWith, IsCut, IsLast, IsLead, IsOneOrNone, KeepsLists, choices_to, list_at, lists_of, moved, moved_lead, moved_leads, walked}
 use Rattle.loom_engine.proofs.Covering.Between.{within}
 
 -- ---- lists
@@ -424,3 +425,116 @@ module _ (old : List Step) (made : List Choice) where
 
     pub going_leads : IsLead new (record { last = last; len = length made })
     going_leads = record { within = z.inside; counted = ap length going_ends }
+
+-- ---- steps behind others
+
+moved_low : (offset n count : ℕ) → n ≤ count → moved offset n ≤ offset + count
+moved_low offset zero count l = omega arith
+moved_low offset (suc n) count l = omega (arith, l)
+
+pub moved_on : (offset n : ℕ) → 0 < n → moved offset n ≡ n + offset
+moved_on offset zero l = absurd (omega (arith, l))
+moved_on offset (suc n) l = refl
+
+-- so many of the other steps are there
+pub record Grafting (old other : List Step) (number : ℕ) (new : List Step) : Type 0 where
+  pub well : AreSteps new
+  pub keeps : KeepsLists old new
+  pub size : length new ≡ length old + number
+  pub same : (n : ℕ) → n ≤ number → choices_to new (moved (length old) n) ≡ choices_to other n
+
+module _ (old other : List Step) where
+  pub grafting_starts : AreSteps old → Grafting old other 0 old
+  grafting_starts well = record { well = well; keeps = keeps_all old; size = omega arith; same = first }
+    where
+      first : (n : ℕ) → n ≤ 0 → choices_to old (moved (length old) n) ≡ choices_to other n
+      first zero l = choices_none old ∙ sym (choices_none other)
+      first (suc n) l = absurd (omega (arith, l))
+
+  pub grafting_on : (number : ℕ) (new more : List Step) (step added : Step) → Grafting old other number new → AreSteps other → slice_get other number ≡ Some step → added.before ≡ moved (length old) step.before → added.choice ≡ step.choice → more ≡ new ++ added ∷ []
+      → Grafting old other (suc number) more
+  grafting_on number new more step added z others there before choice grown = subst (Grafting old other (suc number)) (sym grown) (record {
+    well = steps_more new added z.well (omega (arith, low, size));
+    keeps = keeps_more old new added z.keeps;
+    size = (let longer = length-append new (added ∷ []) in omega (arith, size, longer));
+    same = λ n l. by n l (ℕ_discrete n (suc number));
+  })
+    where
+      size : length new ≡ length old + number
+      size = z.size
+
+      behind : step.before ≤ number
+      behind = (others.each number step there).0
+
+      low : added.before ≤ length old + number
+      low = subst (λ (n : ℕ). n ≤ length old + number) (sym before) (moved_low (length old) step.before number behind)
+
+      here : choices_to (new ++ added ∷ []) (moved (length old) (suc number)) ≡ choices_to other (suc number)
+      here =
+          let last : moved (length old) (suc number) ≡ suc (length new) = omega (arith, size) in
+          ap (choices_to (new ++ added ∷ [])) last
+          ∙ choices_new new added
+          ∙ ap (λ (n : ℕ). choices_to new n ++ added.choice ∷ []) before
+          ∙ ap (λ (x : Choice). choices_to new (moved (length old) step.before) ++ x ∷ []) choice
+          ∙ ap (λ (c : List Choice). c ++ step.choice ∷ []) (z.same step.before behind)
+          ∙ sym (others.each number step there).1
+
+      by : (n : ℕ) → n ≤ suc number → Dec (n ≡ suc number) → choices_to (new ++ added ∷ []) (moved (length old) n) ≡ choices_to other n
+      by n l (yes e) = subst (λ (k : ℕ). choices_to (new ++ added ∷ []) (moved (length old) k) ≡ choices_to other k) (sym e) here
+      by n l (no f) =
+          let below : n ≤ number = omega (arith, l, f) in
+          let inside : moved (length old) n ≤ length old + number = moved_low (length old) n number below in
+          choices_stay new added (moved (length old) n) (omega (arith, inside, size)) ∙ z.same n below
+
+  pub grafting_ends : (number : ℕ) (new : List Step) → Grafting old other number new → number ≡ length other → AreGrafted old other new
+  grafting_ends number new z all = record { size = z.size ∙ ap (λ (n : ℕ). length old + n) all; same = λ n l. z.same n (omega (arith, l, all)) }
+
+  module _ (new : List Step) (z : AreGrafted old other new) where
+    moved_there : (lead : Lead) → IsLead other lead → IsLead new (moved_lead (length old) lead)
+    moved_there lead is =
+        let size : length new ≡ length old + length other = z.size in
+        let inside : moved (length old) lead.last ≤ length old + length other = moved_low (length old) lead.last (length other) is.within in
+        record { within = omega (arith, size, inside); counted = ap length (z.same lead.last is.within) ∙ is.counted }
+
+    pub moved_all : (leads : List Lead) → AreTrails other leads → AreMoved new (length old) leads
+    moved_all leads all n lead e = moved_there lead (all.each n lead e)
+
+    moved_same : (leads : List Lead) → ((n : ℕ) (lead : Lead) → slice_get leads n ≡ Some lead → IsLead other lead) → lists_of new (moved_leads (length old) leads) ≡ lists_of other leads
+    moved_same [] each = refl
+    moved_same (lead ∷ leads) each =
+        ap₂ (λ (c : List Choice) (cs : List (List Choice)). c ∷ cs) (z.same lead.last (each 0 lead refl).within) (moved_same leads (λ n one e. each (suc n) one e))
+
+    pub lists_appended : (leads others added : List Lead) (count : ℕ) → AreTrails old leads → AreTrails other others → KeepsLists old new → lists_of new added ≡ lists_of new leads ++ take count (lists_of new (moved_leads (length old) others))
+        → lists_of new added ≡ lists_of old leads ++ take count (lists_of other others)
+    lists_appended leads others added count all them keeps is =
+        is ∙ ap (λ (cs : List (List Choice)). cs ++ take count (lists_of new (moved_leads (length old) others))) (lists_kept old new leads all keeps)
+        ∙ ap (λ (cs : List (List Choice)). lists_of old leads ++ take count cs) (moved_same others them.each)
+
+-- so many of the other lists are there
+pub record Putting (steps : List Step) (old other : List Lead) (offset number : ℕ) (leads : List Lead) : Type 0 where
+  pub well : AreTrails steps leads
+  pub lists : lists_of steps leads ≡ lists_of steps old ++ take number (lists_of steps (moved_leads offset other))
+
+module _ (steps : List Step) (old other : List Lead) (offset : ℕ) where
+  pub putting_starts : AreTrails steps old → Putting steps old other offset 0 old
+  putting_starts well = record { well = well; lists = sym (append-nil (lists_of steps old)) }
+
+  pub putting_on : (number : ℕ) (leads more : List Lead) (lead added : Lead) → Putting steps old other offset number leads → AreMoved steps offset other → slice_get other number ≡ Some lead → added ≡ moved_lead offset lead → more ≡ leads ++ added ∷ []
+      → Putting steps old other offset (suc number) more
+  putting_on number leads more lead added z are there is grown = subst (Putting steps old other offset (suc number)) (sym (grown ∙ ap (λ (l : Lead). leads ++ l ∷ []) is)) (record {
+    well = trails_more steps leads z.well (moved_lead offset lead) (are number lead there);
+    lists = map_push (λ (one : Lead). choices_to steps one.last) leads (moved_lead offset lead)
+        ∙ ap (λ (cs : List (List Choice)). cs ++ choices_to steps (moved offset lead.last) ∷ []) z.lists
+        ∙ append_assoc (lists_of steps old) (take number (lists_of steps (moved_leads offset other))) (choices_to steps (moved offset lead.last) ∷ [])
+        ∙ ap (λ (cs : List (List Choice)). lists_of steps old ++ cs) (sym (take_on (lists_of steps (moved_leads offset other)) number (choices_to steps (moved offset lead.last)) next));
+  })
+    where
+      next : slice_get (lists_of steps (moved_leads offset other)) number ≡ Some (choices_to steps (moved offset lead.last))
+      next = list_got steps (moved_leads offset other) number (moved_lead offset lead) (got_map (moved_lead offset) other number lead there)
+
+  pub putting_ends : (number count : ℕ) (leads : List Lead) → Putting steps old other offset number leads → number ≡ min count (length other)
+      → lists_of steps leads ≡ lists_of steps old ++ take count (lists_of steps (moved_leads offset other))
+  putting_ends number count leads z all =
+      let lists = lists_of steps (moved_leads offset other) in
+      let size : length lists ≡ length other = lists_length steps (moved_leads offset other) ∙ length-map other (moved_lead offset) in
+      z.lists ∙ ap (λ (n : ℕ). lists_of steps old ++ take n lists) (all ∙ ap (min count) (sym size)) ∙ ap (λ (cs : List (List Choice)). lists_of steps old ++ cs) (take_min count lists)

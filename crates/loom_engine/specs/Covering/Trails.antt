@@ -1,5 +1,5 @@
 -- Lists of choices that are kept as a tree: each step is one choice, behind those up to an earlier step.
-use Rattle.std.specs.Prelude.{ℕ, suc, ◌≡◌, ◌≤◌, ◌⊎◌, List, [], ◌∷◌, ◌++◌, length, map, slice_get, unwrap_or, Some}
+use Rattle.std.specs.Prelude.{ℕ, zero, suc, ◌≡◌, ◌≤◌, ◌+◌, ◌⊎◌, List, [], ◌∷◌, ◌++◌, length, map, slice_get, unwrap_or, Some}
 use Rattle.loom_objects.specs.declared.choice.Choice.{Choice}
 use Rattle.loom_engine.specs.declared.rt.states.trails.Last.{Last}
 use Rattle.loom_engine.specs.declared.rt.states.trails.Lead.{Lead}
@@ -61,3 +61,25 @@ pub record IsCut (steps : List Step) (lead : Lead) (len : ℕ) (cut : Lead) : Ty
   pub counted : cut.len ≡ len
   pub rest : List Choice
   pub whole : choices_to steps lead.last ≡ choices_to steps cut.last ++ rest
+
+-- ---- steps behind others
+
+-- the number of a step behind so many others
+abbrev pub moved : ℕ → ℕ → ℕ
+moved offset zero = 0
+moved offset (suc n) = suc n + offset
+
+-- these steps are there behind the others, and lead to the same
+pub record AreGrafted (old other new : List Step) : Type 0 where
+  pub size : length new ≡ length old + length other
+  pub same : (n : ℕ) → n ≤ length other → choices_to new (moved (length old) n) ≡ choices_to other n
+
+abbrev pub moved_lead : ℕ → Lead → Lead
+moved_lead offset lead = record { last = moved offset lead.last; len = lead.len }
+
+abbrev pub moved_leads : ℕ → List Lead → List Lead
+moved_leads offset leads = map (moved_lead offset) leads
+
+-- each of them leads there too, behind so many others
+abbrev pub AreMoved : List Step → ℕ → List Lead → Type 0
+AreMoved steps offset leads = (n : ℕ) (lead : Lead) → slice_get leads n ≡ Some lead → IsLead steps (moved_lead offset lead)

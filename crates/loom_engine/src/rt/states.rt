@@ -424,19 +424,13 @@ impl<D: Data + Same, B: Body + Same> States<D, B> {
     pub fn join(&mut self, other: States<D, B>) -> Result<(), AllocError>
         ensures { IfOk result (λ _. (never : Bool) (key : List Chosen → Key D B) (left : List (List Stored)) → IsTableOf never key left self.old → IsTableOf never key left other → IsTableOf never key left self.new) }
     {
-        let chains = other.chains;
-        let alloc = other.alloc;
+        let room = self.most.saturating_sub(self.states.len());
+        let count = room.min(other.states.len());
+        self.led_by.append(&other.led_by, count)?;
+        add_digests(&mut self.chains, &other.chains, count)?;
         let mut states = other.states.into_vec();
-        let led_by = other.led_by;
-        let count = led_by.len();
-        'join: while let Some(state) = states.pop() {
-            let number = states.len();
-            if number >= count {
-                return Ok(());
-            }
-            let choices = led_by.choices(alloc, number)?;
-            self.add(state, chains.digest(number), choices.as_slice())?;
-        }
+        states.truncate(count);
+        self.states.append(Sequence::from_vec(states))?;
         Ok(())
     }
 
@@ -452,4 +446,12 @@ impl<D: Data + Same, B: Body + Same> States<D, B> {
         self.states.push(state)?;
         Ok(())
     }
+}
+
+/// Adds the first so many digests of other ones. An error where memory is refused.
+fn add_digests(chains: &mut Chains, other: &Chains, count: usize) -> Result<(), AllocError> {
+    for number in 0..count {
+        chains.add(other.digest(number))?;
+    }
+    Ok(())
 }

@@ -1,8 +1,8 @@
 //! The choices that led to states, as a tree: those with which two of these lists begin alike are kept once.
-ghost use Rattle.std.specs.Prelude.{◌≡◌, ◌<◌, ◌≤◌, ◌↔◌, ◌++◌, ◌∷◌, [], IfOk, IsFalse, IsTrue, List, length, OnErr, OnOk, reverse, slice_get, Some};
+ghost use Rattle.std.specs.Prelude.{◌≡◌, ◌<◌, ◌≤◌, ◌↔◌, ◌++◌, ◌∷◌, [], IfOk, IsFalse, IsTrue, List, length, OnErr, OnOk, reverse, slice_get, Some, take};
 ghost use Rattle.loom_objects.specs.declared.choice.Choice.{Choice as Chosen};
 ghost use Rattle.loom_engine.specs.Covering.Between.{Passes};
-ghost use Rattle.loom_engine.specs.Covering.Trails.{AreSteps, BeginsWith, IsCut, IsLast, IsLead, IsOneOrNone, KeepsLists, choices_to};
+ghost use Rattle.loom_engine.specs.Covering.Trails.{AreGrafted, AreMoved, AreSteps, AreTrails, BeginsWith, IsCut, IsLast, IsLead, IsOneOrNone, KeepsLists, choices_to, lists_of, moved, moved_leads};
 
 use loom_objects::choice::Choice;
 use loom_views::sequence::Sequence;
@@ -77,6 +77,16 @@ impl Trails {
         let from = shared(&self.steps, before, made);
         let lead = walk_on(&mut self.steps, from, made)?;
         self.leads.push(lead)?;
+        Ok(())
+    }
+
+    /// The first so many of other ones too, at the end. An error where memory is refused; then some of them may be there (own).
+    pub fn append(&mut self, other: &Trails, count: usize) -> Result<(), AllocError>
+        ensures { IfOk result (λ _. self.new ≡ self.old ++ take count other.now) }
+    {
+        let offset = self.steps.len();
+        graft(&mut self.steps, &other.steps)?;
+        put_leads(&self.steps, &mut self.leads, &other.leads, offset, count)?;
         Ok(())
     }
 
@@ -296,6 +306,65 @@ fn walk_on(steps: &mut Sequence<Step>, from: Lead, made: &[Choice]) -> Result<Le
         len: made.len(),
     })
 }
+
+// ---- steps behind others
+
+/// Puts these steps behind those, where they lead to the same. Where memory is refused some of them may be there.
+fn graft(steps: &mut Sequence<Step>, other: &Sequence<Step>) -> Result<(), AllocError>
+    requires steps { AreSteps steps.old }
+    requires other { AreSteps other.now }
+    ensures well { AreSteps steps.new }
+    ensures keeps { KeepsLists steps.old steps.new }
+    ensures grafted { IfOk result (λ _. AreGrafted steps.old other.now steps.new) }
+{
+    let offset = steps.len();
+    let count = other.len();
+    for number in 0..count {
+        let step = other.at(number);
+        let before = moved(step.before, offset)?;
+        let choice = step.choice;
+        steps.push(Step { before, choice })?;
+    }
+    Ok(())
+}
+
+/// The first so many of these lead there too, behind so many other steps. Where memory is refused some of them may.
+fn put_leads(
+    steps: &Sequence<Step>,
+    leads: &mut Sequence<Lead>,
+    other: &Sequence<Lead>,
+    offset: usize,
+    count: usize,
+) -> Result<(), AllocError>
+    requires well { AreTrails steps.now leads.old }
+    requires moved { AreMoved steps.now offset other.now }
+    ensures well { AreTrails steps.now leads.new }
+    ensures puts { IfOk result (λ _. lists_of steps.now leads.new ≡ lists_of steps.now leads.old ++ take count (lists_of steps.now (moved_leads offset other.now))) }
+{
+    let most = other.len();
+    for number in 0..count.min(most) {
+        let lead = other.at(number);
+        let last = moved(lead.last, offset)?;
+        let len = lead.len;
+        leads.push(Lead { last, len })?;
+    }
+    Ok(())
+}
+
+/// The number of a step behind so many others. An error where it is too large, as no step's is.
+fn moved(number: usize, offset: usize) -> Result<usize, AllocError>
+    ensures { IfOk result (λ behind. behind ≡ moved offset number) }
+{
+    if number == 0 {
+        return Ok(0);
+    }
+    match number.checked_add(offset) {
+        Some(behind) => Ok(behind),
+        None => Err(AllocError),
+    }
+}
+
+// ---- single choices
 
 /// Whether this choice is at the place.
 fn has_at(made: &[Choice], place: usize, choice: Choice) -> bool

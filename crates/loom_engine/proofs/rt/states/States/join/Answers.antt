@@ -1,37 +1,15 @@
-use Rattle.std.proofs.Common.{◌≡◌, ◌++◌, ◌∷◌, [], suc, length, take, slice_get, Some, ap, sym, ◌∙◌, subst, arith, length-append, take_all}
-use Rattle.std.specs.Option.{option_to_list}
-use Rattle.loom_engine.specs.Covering.Kept.{Noted, NotesAs}
-use Rattle.loom_engine.proofs.Covering.Adding.{last_one, one_added, table_of_lists}
-use Rattle.loom_engine.proofs.Covering.Trails.{take_on}
+use Rattle.std.proofs.Common.{◌≡◌, ◌++◌, take, ap, ◌∙◌}
+use Rattle.loom_engine.specs.Covering.Kept.{Noted}
+use Rattle.loom_engine.proofs.Covering.Adding.{joined_states}
 use Rattle.loom_engine.proofs.rt.states.States.join.Goals as goal
 
-pub join-init : goal.join-init
-join-init g c = λ never key left one other.
-    let items = c.into_vec-states.result.items in
-    let led_by = c.other.inside.led_by in
-    let states = ap (λ (n : Noted _ _). n.states) (sym c.other.view_is) ∙ sym c.into_vec-states.ensures in
-    let led = ap (λ (n : Noted _ _). n.led_by) (sym c.other.view_is) in
-    let size = sym (ap length led) ∙ other.kept.counted ∙ ap length states in
-    (one, table_of_lists never key left c.args.other items (take (length items) led_by) states (led ∙ sym (take_all (length items) led_by (omega (arith, size)))) other)
-
-pub join-preserved : goal.join-preserved
-join-preserved g c = λ never key left one other.
-    let z = c.join.invariant never key left one other in
-    let all = c.join.states.items in
-    let fewer = c.pop.new.self.items in
-    let led_by = c.other.inside.led_by in
-    let choices = c.in_ok-choices.choices.items in
-    let states : all ≡ fewer ++ c.in-Some.state ∷ [] = c.pop.ensures.items ∙ ap (λ o. fewer ++ option_to_list o) c.in-Some.is in
-    let number : c.len-number.result ≡ length fewer = c.len-number.ensures ∙ c.pop.new.self.ok.0 in
-    let one_more : length all ≡ suc (length fewer) = omega (arith, ap length states, length-append fewer (c.in-Some.state ∷ [])) in
-    let there : slice_get led_by (length fewer) ≡ Some choices = ap (slice_get led_by) (sym number) ∙ c.in_ok-choices.ensures in
-    let led : take (length all) led_by ≡ take (length fewer) led_by ++ choices ∷ [] = ap (λ n. take n led_by) one_more ∙ take_on led_by (length fewer) choices there in
-    let last = last_one never key left all (take (length all) led_by) fewer (take (length fewer) led_by) c.in-Some.state choices states led z.1 in
-    let noted : NotesAs c.in-Some.state choices c.join.self c.add.new.self = subst (λ l. NotesAs c.in-Some.state l c.join.self c.add.new.self) c.as_slice.ensures.value c.in_ok-add.ensures in
-    (one_added never key left c.join.self c.add.new.self c.in-Some.state choices z.0 last.0 noted, last.1)
-
-pub returns-then-number-count : goal.returns-then-number-count
-returns-then-number-count g c = λ never key left one other. (c.join.invariant never key left one other).0
-
 pub returns : goal.returns
-returns g c = λ never key left one other. (c.join.invariant never key left one other).0
+returns g c = λ never key left one other.
+    let count = c.min-count.result in
+    let view = c.self.view_is in
+    let other_view = c.other.view_is in
+    let others : c.from_vec.result ≡ take count c.args.other.states = c.from_vec.ensures ∙ c.truncate.ensures.items ∙ ap (take count) (c.into_vec-states.ensures ∙ ap (λ (n : Noted _ _). n.states) other_view) in
+    let states : c.append-2.new.self ≡ c.args.self.now.states ++ take count c.args.other.states = c.in_ok-append-2.ensures ∙ ap (λ xs. xs ++ c.from_vec.result) (ap (λ (n : Noted _ _). n.states) view) ∙ ap (λ xs. c.args.self.now.states ++ xs) others in
+    let led_by : c.append.new.self ≡ c.args.self.now.led_by ++ take count c.args.other.led_by =
+    c.in_ok-append.ensures ∙ ap (λ xs. xs ++ take count c.other.inside.led_by) (ap (λ (n : Noted _ _). n.led_by) view) ∙ ap (λ xs. c.args.self.now.led_by ++ take count xs) (ap (λ (n : Noted _ _). n.led_by) other_view) in
+    joined_states never key left c.args.self.now c.args.other count c.append-2.new.self c.append.new.self c.self.inside.never_switches one other states led_by (ap (λ (n : Noted _ _). n.never) view)
