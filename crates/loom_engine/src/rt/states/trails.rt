@@ -1,4 +1,4 @@
-//! The choices that led to states, as a tree: those with which two of these lists begin alike are kept once.
+//! The choices that led to states, as a tree: those with which a list begins as the one before it does are kept once.
 ghost use Rattle.std.specs.Prelude.{◌≡◌, ◌<◌, ◌≤◌, ◌↔◌, ◌++◌, ◌∷◌, [], IfOk, IsFalse, IsTrue, List, length, OnErr, OnOk, reverse, slice_get, Some, take};
 ghost use Rattle.loom_objects.specs.declared.choice.Choice.{Choice as Chosen};
 ghost use Rattle.loom_engine.specs.Covering.Between.{Passes};
