@@ -1,9 +1,6 @@
 use Rattle.std.proofs.Common.{rules}
 use Rattle.loom_views.proofs.rt.atomic.State.make.Goals as goal
 
-pub returns-then-self-eq-MAX_STORES-clause-made : goal.returns-then-self-eq-MAX_STORES-clause-made
-returns-then-self-eq-MAX_STORES-clause-made c = search rules
-
 pub push-requires-clause-room : goal.push-requires-clause-room
 push-requires-clause-room c = search rules
 
