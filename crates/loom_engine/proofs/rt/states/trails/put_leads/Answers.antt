@@ -22,5 +22,5 @@ returns-in_err-push-clause-well c = subst (AreTrails c.args.steps.now) (sym c.in
 
 pub returns-clause-puts : goal.returns-clause-puts
 returns-clause-puts c =
-    let all : c.loop-number.number ≡ min c.args.count (length c.args.other.now) = omega (arith, c.loop-number.auto.number-end, c.min.ensures, c.len-most.ensures) in
+    let all : c.loop-number.number ≡ min c.args.count (length c.args.other.now) = omega (arith, c.loop-number.auto.number-end, c.min-number-end.ensures, c.len-most.ensures) in
     putting_ends c.args.steps.now c.args.leads.now c.args.other.now c.args.offset c.loop-number.number c.args.count c.loop-number.leads c.loop-number.invariant all

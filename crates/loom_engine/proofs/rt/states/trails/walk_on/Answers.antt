@@ -9,9 +9,9 @@ loop-place-init c = going_starts c.args.steps.now c.args.made.now c.args.from c.
 pub loop-place-preserved : goal.loop-place-preserved
 loop-place-preserved c =
     let one : suc c.loop-place.place ≡ c.loop-place.place + 1 = omega arith in
-    subst (λ k. Going c.args.steps.now c.push.new.self c.args.made.now k c.len.result) one
-    (going_on c.args.steps.now c.args.made.now c.loop-place.steps c.push.new.self c.loop-place.place c.len.result (record { before = c.loop-place.last; choice = c.choice_at-choice.result }) c.loop-place.invariant c.choice_at-choice.ensures
-    c.in_ok-push.ensures.ok c.len.ensures)
+    subst (λ k. Going c.args.steps.now c.push.new.self c.args.made.now k c.len-last.result) one
+    (going_on c.args.steps.now c.args.made.now c.loop-place.steps c.push.new.self c.loop-place.place c.len-last.result (record { before = c.loop-place.last; choice = c.choice_at-choice.result }) c.loop-place.invariant c.choice_at-choice.ensures
+    c.in_ok-push.ensures.ok c.len-last.ensures)
 
 -- no memory for a step
 pub returns-in_err-push-clause-well : goal.returns-in_err-push-clause-well

@@ -15,10 +15,6 @@ put_leads-requires-clause-moved c =
     subst (λ n. AreMoved c.graft.new.steps n c.other.inside.leads) (sym c.len-offset.ensures)
     (moved_all c.self.inside.steps c.other.inside.steps c.graft.new.steps c.in_ok-graft.ensures.grafted c.other.inside.leads c.other.invariant)
 
--- no memory for where they lead
-pub invariant_of-self-in-Break-branch-2 : goal.invariant_of-self-in-Break-branch-2
-invariant_of-self-in-Break-branch-2 c = c.put_leads.ensures.well
-
 pub invariant_of-self-2 : goal.invariant_of-self-2
 invariant_of-self-2 c = c.put_leads.ensures.well
 

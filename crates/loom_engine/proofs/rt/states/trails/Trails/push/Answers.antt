@@ -15,8 +15,8 @@ pub returns-in_err-lead-clause-err : goal.returns-in_err-lead-clause-err
 returns-in_err-lead-clause-err c = on_err c.from_residual.result _ (lists_kept c.self.inside.steps c.walk_on.new.steps c.self.inside.leads c.self.invariant c.walk_on.ensures.keeps ∙ c.self.view_is)
 
 -- no memory for where they lead
-pub invariant_of-self-in-Break-branch-2 : goal.invariant_of-self-in-Break-branch-2
-invariant_of-self-in-Break-branch-2 c =
+pub invariant_of-self-in_err-push : goal.invariant_of-self-in_err-push
+invariant_of-self-in_err-push c =
     subst (λ l. AreTrails c.walk_on.new.steps l) (sym c.in_err-push.ensures.err) (trails_kept c.self.inside.steps c.self.inside.leads c.self.invariant c.walk_on.new.steps c.walk_on.ensures.keeps c.walk_on.ensures.well)
 
 pub returns-in_err-push-clause-err : goal.returns-in_err-push-clause-err
