@@ -22,13 +22,13 @@ of_finish one other a x b is was same = same_value _ _ _ _ _ same (λ e. cc) (λ
 -- ---- the goals
 
 pub returns-then-a-x : goal.returns-then-a-x
-returns-then-a-x g c = of_join _ _ _ _ _ _ c.in-Join-one.is c.in-Join.is c.if-a-x.true
+returns-then-a-x g c = of_join _ _ _ _ _ _ c.in-Join-is_kind.is c.in-Join.is c.if-a-x.true
 
 pub returns-else-a-x : goal.returns-else-a-x
-returns-else-a-x g c = other_join _ _ _ _ _ _ c.in-Join-one.is c.in-Join.is c.if-a-x.false
+returns-else-a-x g c = other_join _ _ _ _ _ _ c.in-Join-is_kind.is c.in-Join.is c.if-a-x.false
 
-pub returns-in_default-one : goal.returns-in_default-one
-returns-in_default-one g c = other_kind _ _ (λ e. c.in_default-one.not-Join _ _ (e ∙ c.in-Join.is))
+pub returns-in_default-is_kind : goal.returns-in_default-is_kind
+returns-in_default-is_kind g c = other_kind _ _ (λ e. c.in_default-is_kind.not-Join _ _ (e ∙ c.in-Join.is))
 
 pub returns-in-Current-matches : goal.returns-in-Current-matches
 returns-in-Current-matches g c = same_kind _ _ (c.in-Current-matches.is ∙ sym c.in-Current.is)
@@ -42,11 +42,11 @@ returns-in-Park-matches g c = same_kind _ _ (c.in-Park-matches.is ∙ sym c.in-P
 pub returns-in_default-matches-2 : goal.returns-in_default-matches-2
 returns-in_default-matches-2 g c = other_kind _ _ (λ e. c.in_default-matches-2.not-Park (e ∙ c.in-Park.is))
 
-pub returns-in-Unpark-one : goal.returns-in-Unpark-one
-returns-in-Unpark-one g c = of_unpark _ _ _ _ c.in-Unpark-one.is c.in-Unpark.is
+pub returns-in-Unpark-is_kind : goal.returns-in-Unpark-is_kind
+returns-in-Unpark-is_kind g c = of_unpark _ _ _ _ c.in-Unpark-is_kind.is c.in-Unpark.is
 
-pub returns-in_default-one-2 : goal.returns-in_default-one-2
-returns-in_default-one-2 g c = other_kind _ _ (λ e. c.in_default-one-2.not-Unpark _ (e ∙ c.in-Unpark.is))
+pub returns-in_default-is_kind-2 : goal.returns-in_default-is_kind-2
+returns-in_default-is_kind-2 g c = other_kind _ _ (λ e. c.in_default-is_kind-2.not-Unpark _ (e ∙ c.in-Unpark.is))
 
 pub returns-in-Yield-matches : goal.returns-in-Yield-matches
 returns-in-Yield-matches g c = same_kind _ _ (c.in-Yield-matches.is ∙ sym c.in-Yield.is)
@@ -54,11 +54,11 @@ returns-in-Yield-matches g c = same_kind _ _ (c.in-Yield-matches.is ∙ sym c.in
 pub returns-in_default-matches-3 : goal.returns-in_default-matches-3
 returns-in_default-matches-3 g c = other_kind _ _ (λ e. c.in_default-matches-3.not-Yield (e ∙ c.in-Yield.is))
 
-pub returns-in-Finish-one : goal.returns-in-Finish-one
-returns-in-Finish-one g c = of_finish _ _ _ _ _ c.in-Finish-one.is c.in-Finish.is c.is_same_value.ensures
+pub returns-in-Finish-is_kind : goal.returns-in-Finish-is_kind
+returns-in-Finish-is_kind g c = of_finish _ _ _ _ _ c.in-Finish-is_kind.is c.in-Finish.is c.is_same_value.ensures
 
-pub returns-in_default-one-3 : goal.returns-in_default-one-3
-returns-in_default-one-3 g c = other_kind _ _ (λ e. c.in_default-one-3.not-Finish _ (e ∙ c.in-Finish.is))
+pub returns-in_default-is_kind-3 : goal.returns-in_default-is_kind-3
+returns-in_default-is_kind-3 g c = other_kind _ _ (λ e. c.in_default-is_kind-3.not-Finish _ (e ∙ c.in-Finish.is))
 
 pub returns-in-Exit-matches : goal.returns-in-Exit-matches
 returns-in-Exit-matches g c = same_kind _ _ (c.in-Exit-matches.is ∙ sym c.in-Exit.is)
