@@ -129,7 +129,7 @@ struct Said {
     status: u8,
 }
 
-static SAID: [Said; 22] = [
+static SAID: [Said; 28] = [
     Said {
         words: &["--explain", "relaxed_ring_closures"],
         out: texts::relaxed_ring_closures::TEXT,
@@ -211,6 +211,42 @@ static SAID: [Said; 22] = [
     Said {
         words: &["--cover", "two_mutexes_deadlock_closures"],
         out: "failed 2 1 t1 t1 t2 t2 t-\n",
+        err: "",
+        status: 1,
+    },
+    Said {
+        words: &["--cover", "fetch_add_atomic_closures"],
+        out: "complete 2 met 2 states 13\n",
+        err: "",
+        status: 0,
+    },
+    Said {
+        words: &["--cover", "three_adds_closures"],
+        out: "complete 90 met 649 states 1333\n",
+        err: "",
+        status: 0,
+    },
+    Said {
+        words: &["--cover", "runner_ping_pong"],
+        out: "complete 1 met 0 states 0\n",
+        err: "",
+        status: 0,
+    },
+    Said {
+        words: &["--cover", "guard_left_closures"],
+        out: "failed 2 0 t0 t1 t-\n",
+        err: "",
+        status: 1,
+    },
+    Said {
+        words: &["--cover", "relaxed_ring_closures"],
+        out: "failed 3 0 t0 l0 t1 t1 t1 t1 l0 t0 t0 l1\n",
+        err: "",
+        status: 1,
+    },
+    Said {
+        words: &["--cover", "buggy_concurrent_inc_closures"],
+        out: "failed 1 0 t1 t1 l0 t1 t1 t0 t2 t2 l0 t2 t2 t0 t0 l1\n",
         err: "",
         status: 1,
     },
