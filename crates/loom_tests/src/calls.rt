@@ -13,11 +13,11 @@ mod values;
 mod wakers;
 
 use crate::asserting::same;
+use crate::page::Page;
 use loom::cell::MutPtr;
 use loom::lazy_static::Lazy;
 use loom::sync::Arc;
 use loom::thread::{AccessError, JoinHandle, LocalKey, ThreadId};
-use loom_testing::page::Page;
 use loom_views::rt::num::Numeric;
 use std::mem;
 use std::process::Abort;

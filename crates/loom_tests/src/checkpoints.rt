@@ -1,10 +1,10 @@
 //! Texts of paths, good and bad: which are read, and why others are refused. Each is given to the reader, and what comes is
 //! compared.
 use crate::asserting::{holds, same};
+use crate::page::Page;
 use loom_engine::rt::path::checkpoint::error::PathError;
 use loom_engine::rt::path::checkpoint::text::{from_text, to_text};
 use loom_engine::rt::path::{Path, Search};
-use loom_testing::page::Page;
 use std::alloc::Global;
 use std::process::Abort;
 

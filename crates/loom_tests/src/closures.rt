@@ -30,6 +30,6 @@ const SLOT_0: Choice = Choice::Load(0);
 const SLOT_1: Choice = Choice::Load(1);
 
 /// Ends the test where this doesn't hold.
-fn holds(rt: &impl Abort, fact: bool) {
+pub(crate) fn holds(rt: &impl Abort, fact: bool) {
     assert!(rt; fact);
 }

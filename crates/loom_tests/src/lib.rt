@@ -1,4 +1,4 @@
-//! Tests of the libraries.
+//! Tests of the libraries and of the examples; and what tests of several crates write with, which no program calls.
 #![tactic(auto)]
 
 #[cfg(test)]
@@ -11,6 +11,10 @@ mod calls;
 mod checkpoints;
 #[cfg(test)]
 mod closures;
+#[cfg(test)]
+mod examples;
+pub mod page;
+pub mod pens;
 #[cfg(test)]
 mod porting;
 #[cfg(test)]

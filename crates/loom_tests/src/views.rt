@@ -2,12 +2,12 @@
 ghost use Rattle.std.specs.Prelude.{◌<◌};
 
 use crate::asserting::{holds, same};
+use crate::page::Page;
 use crate::views::Call::{
     Acquire, AcquireFromStamp, AddAtomic, AddCell, AddPoint, AddStamp, Fence, JoinThread, Load,
     MarkYield, Raise, Read, Readable, Release, ReleaseFence, ReleaseToStamp, Spawn, Stamp, Store,
     UnsyncLoad, UpdateFail, UpdateRead, UpdateWrite, WithMut, WithMutEnd, Write,
 };
-use loom_testing::page::Page;
 use loom_views::rt::atomic::reader::Reader::{self, Load as Any, Update};
 use loom_views::rt::num::change::Change;
 use loom_views::rt::num::{Numbers, Numeric};

@@ -1,7 +1,7 @@
 //! What the program of litmus tests does with words.
 use crate::tests::reading::texts::TEXTS;
 use loom::runner::Host;
-use loom_testing::pens::{Pen, Printed, is_printed};
+use loom_tests::pens::{Pen, Printed, is_printed};
 use loom_text::words::run_words;
 use std::process::Abort;
 use std::rt::Clock;

@@ -19,7 +19,7 @@ use loom_examples::scripts::step::{END, EXIT, Step, Value};
 use loom_objects::operation::{AtomicOp, MutexOp, Request, ThreadOp};
 use loom_plain::run::Ending;
 use loom_plain::search::Found;
-use loom_testing::page::Page;
+use loom_tests::page::Page;
 use loom_views::rt::num::Numbers;
 use loom_views::same::Same;
 use std::alloc::Global;

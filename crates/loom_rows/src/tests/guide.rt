@@ -5,7 +5,7 @@ use loom::model::Report;
 use loom_examples::bodies::guide::Counter;
 use loom_examples::rows::WHOLE;
 use loom_examples::rows::settings::Builds;
-use loom_testing::page::Page;
+use loom_tests::page::Page;
 
 #[test]
 fn no_thread_is_counted_third(rt: HostRuntime) {

@@ -33,7 +33,7 @@ use loom_examples::rows::tables::few_threads::LOCK_BESIDE;
 use loom_examples::rows::{DEFAULTS, WHOLE};
 use loom_examples::scripts::script::Script;
 use loom_examples::scripts::step::Step;
-use loom_testing::page::Page;
+use loom_tests::page::Page;
 use std::alloc::{AllocError, Global};
 use std::process::Abort;
 use std::time::Duration;

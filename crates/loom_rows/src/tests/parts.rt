@@ -13,7 +13,7 @@ use loom_examples::rows::settings::{Builds, Settings};
 use loom_examples::rows::{Checked, Row};
 use loom_plain::run::Ending;
 use loom_plain::search::Found;
-use loom_testing::page::Page;
+use loom_tests::page::Page;
 use std::alloc::{AllocError, Global};
 use std::process::Abort;
 

@@ -6,7 +6,7 @@ use loom::Choice;
 use loom_examples::rows::settings::Settings;
 use loom_examples::rows::tasks::{Task, do_task};
 use loom_examples::rows::{DEFAULTS, LONG_RUNS, Row, row_of};
-use loom_testing::pens::{Pen, Printed, is_printed};
+use loom_tests::pens::{Pen, Printed, is_printed};
 use std::process::Abort;
 use std::rt::Files;
 

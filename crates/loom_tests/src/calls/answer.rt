@@ -1,4 +1,5 @@
 //! The answer to a call, as a text: the reply, and behind it each handle and each value that is read off it.
+use crate::page::Page;
 use loom::alloc::Track;
 use loom::cell::{Cell, ConstPtr, MutPtr, UnsafeCell};
 use loom::future::{AtomicWaker, BlockOn, Waker};
@@ -11,7 +12,6 @@ use loom::sync::{
 use loom::thread::{AccessError, JoinHandle, Thread};
 use loom::{Numeric, Reply, Turn};
 use loom_objects::failure::Stop;
-use loom_testing::page::Page;
 use std::fmt::Debug;
 
 /// Writes the answer to a call, where atomics hold a `T`: whose turn it is and the reply, or the kind of the failure.

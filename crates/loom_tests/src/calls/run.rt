@@ -2,10 +2,10 @@
 use crate::asserting::same;
 use crate::calls::answer::put_answer;
 use crate::calls::{atomics, cells, channels, counts, exchanges, locks, threads, values, wakers};
+use crate::page::Page;
 use loom::rt::execution::{Execution, Limits};
 use loom::rt::path::{Path, Search};
 use loom::{Numeric, Op};
-use loom_testing::page::Page;
 use std::fmt::Debug;
 use std::process::Abort;
 

@@ -8,7 +8,7 @@ use loom::StoreError;
 use loom::checkpoint::files::TextFiles;
 use loom_examples::rows::WHOLE;
 use loom_examples::rows::settings::{Builds, Settings};
-use loom_testing::page::Page;
+use loom_tests::page::Page;
 use std::alloc::Global;
 use std::process::Abort;
 

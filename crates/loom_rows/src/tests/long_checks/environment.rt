@@ -6,7 +6,7 @@ use loom::model::env::Env;
 use loom::model::error::CheckError;
 use loom_examples::rows::DEFAULTS;
 use loom_examples::rows::settings::Settings;
-use loom_testing::page::Page;
+use loom_tests::page::Page;
 use std::alloc::Global;
 use std::process::Abort;
 

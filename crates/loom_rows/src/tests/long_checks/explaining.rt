@@ -9,7 +9,7 @@ use loom_examples::scripts::script::Script;
 use loom_examples::scripts::step::{FAIL, Step};
 use loom_explain::explanation::Explanation;
 use loom_objects::operation::{Request, ThreadOp};
-use loom_testing::page::Page;
+use loom_tests::page::Page;
 use std::alloc::Global;
 use std::process::Abort;
 

@@ -4,7 +4,7 @@ use crate::tests::asserting::holds;
 use crate::tests::rows::program_rows;
 use crate::tests::words::says;
 use loom_examples::rows::{self, Row};
-use loom_testing::pens::{Pen, Printed, is_printed};
+use loom_tests::pens::{Pen, Printed, is_printed};
 use std::process::Abort;
 use std::rt::Files;
 use std::{fs, io};

@@ -5,7 +5,7 @@ use loom::model::builder::Builder;
 use loom_examples::rows::settings::Builds;
 use loom_examples::rows::{TWO_RUNS, WHOLE};
 use loom_examples::scripts::step::Step;
-use loom_testing::page::Page;
+use loom_tests::page::Page;
 use std::process::Abort;
 use std::rt::Files;
 use std::time::Duration;

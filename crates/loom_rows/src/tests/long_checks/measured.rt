@@ -3,7 +3,7 @@ use super::limits::check_alone;
 use crate::tests::asserting::same;
 use loom_examples::measured::{Measured, all_bodies, body_of};
 use loom_examples::rows::settings::Builds;
-use loom_testing::page::Page;
+use loom_tests::page::Page;
 use std::process::Abort;
 use std::rt::Files;
 

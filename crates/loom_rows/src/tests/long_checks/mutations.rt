@@ -18,7 +18,7 @@ use loom_examples::rows::tables::locks::NOTIFY_WAIT;
 use loom_examples::rows::{DEFAULTS, WHOLE};
 use loom_examples::scripts::script::Script;
 use loom_examples::scripts::step::Step;
-use loom_testing::page::Page;
+use loom_tests::page::Page;
 use std::alloc::Global;
 use std::io::Write;
 use std::process::Abort;

@@ -9,7 +9,7 @@ use loom_engine::rt::path::node::{Load, Node, Spurious};
 use loom_engine::rt::path::{Path, Search};
 use loom_examples::rows::TWO_RUNS;
 use loom_examples::rows::settings::Builds;
-use loom_testing::page::Page;
+use loom_tests::page::Page;
 use std::process::Abort;
 
 const SEARCH: Search = Search {

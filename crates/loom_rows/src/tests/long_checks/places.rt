@@ -7,7 +7,7 @@ use loom::{Choice, Label, Location, text_literal};
 use loom_examples::scripts::script::Script;
 use loom_examples::scripts::step::{Step, Value};
 use loom_objects::operation::{MutexOp, Request, ThreadOp};
-use loom_testing::page::Page;
+use loom_tests::page::Page;
 use std::alloc::Global;
 use std::process::Abort;
 use std::rt::Files;

@@ -11,7 +11,7 @@ use loom_examples::rows::settings::Builds;
 use loom_examples::rows::tables::first::STORE_BUFFERING;
 use loom_examples::rows::{DEFAULTS, WHOLE};
 use loom_examples::scripts::script::Script;
-use loom_testing::page::Page;
+use loom_tests::page::Page;
 use std::alloc::Global;
 use std::process::Abort;
 use std::rt::Clock;

@@ -12,7 +12,7 @@ use loom_examples::rows::{DEFAULTS, TWO_RUNS, WHOLE};
 use loom_examples::scripts::script::Script;
 use loom_examples::scripts::step::{END, EXIT, FAIL, Step, Value};
 use loom_objects::operation::{AtomicOp, ChannelOp, Request, ThreadOp};
-use loom_testing::page::Page;
+use loom_tests::page::Page;
 use loom_views::rt::num::Numbers;
 use std::alloc::Global;
 use std::process::Abort;

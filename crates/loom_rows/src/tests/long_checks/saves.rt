@@ -8,7 +8,7 @@ use loom_examples::rows::WHOLE;
 use loom_examples::rows::settings::{Builds, Settings};
 use loom_examples::rows::tables::first::TWO_MUTEXES_DEADLOCK;
 use loom_examples::scripts::step::Step;
-use loom_testing::page::Page;
+use loom_tests::page::Page;
 use std::process::Abort;
 
 pub(super) static EACH: [Case; 1] = [Case {

@@ -5,7 +5,7 @@ use loom_examples::rows::tables::few_threads::{FINISH_ONLY, LOCK_BESIDE};
 use loom_examples::rows::tables::first::STORE_SEVEN;
 use loom_examples::rows::{DEFAULTS, WHOLE};
 use loom_examples::scripts::step::Step;
-use loom_testing::page::Page;
+use loom_tests::page::Page;
 use std::process::Abort;
 
 // A check of the script that begins with the text gives this.

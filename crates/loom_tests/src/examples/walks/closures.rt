@@ -1,6 +1,6 @@
 //! Walks of closures.
 use crate::asserting::holds;
-use crate::walks::{Keeper, walk_of};
+use crate::examples::walks::{Keeper, walk_of};
 use loom::model::{Builder, Replay, Report, Walked};
 use loom::runner::{Handle, RunnerError, Stop, shorten, walk};
 use loom::{Choice, NoClock};

@@ -10,10 +10,10 @@ mod rows;
 mod shared;
 mod texts;
 
+use crate::closures::holds;
 use loom::runner::exact::Exact;
 use loom_objects::data::Data;
 use std::alloc::{AllocError, Global};
-use std::process::Abort;
 
 /// What the closures' objects hold, and what their threads come to.
 #[derive(Clone, Copy, Debug, PartialEq, Eq)]
@@ -39,9 +39,4 @@ impl Exact for Count {
 #[test]
 fn own_data_is_copied(rt: HostRuntime) {
     holds(&rt, matches!(Count(3).try_clone(), Ok(Count(3))));
-}
-
-/// Ends the test where this doesn't hold.
-fn holds(rt: &impl Abort, fact: bool) {
-    assert!(rt; fact);
 }

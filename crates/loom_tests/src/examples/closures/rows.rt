@@ -1,5 +1,6 @@
 //! What the program prints of the rows that are closures.
-use crate::closures::{holds, texts};
+use crate::closures::holds;
+use crate::examples::closures::texts;
 use loom::model::builder::Builder;
 use loom::runner::Host;
 use loom_examples::closures::rows::{ClosureRow, ROWS, named, run_row};

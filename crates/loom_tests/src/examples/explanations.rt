@@ -3,24 +3,27 @@ mod bodies;
 mod pictures;
 pub mod texts;
 
-use crate::asserting::{same, script};
-use crate::explanations::bodies::limits::{FENCES, ORDERS_EQUAL, STORES, THREE_SPAWNED};
-use crate::explanations::bodies::locks::{
+use crate::asserting::same;
+use crate::examples::explanations::bodies::limits::{FENCES, ORDERS_EQUAL, STORES, THREE_SPAWNED};
+use crate::examples::explanations::bodies::locks::{
     ALL_WAIT, ARC_LEFT, ASLEEP, CROSSED, LOST_UPDATE, MESSAGE_LEFT, SPINS, SPINS_AND_YIELDS,
     TRACK_LEFT, TWICE, WAKER_LEFT,
 };
-use crate::explanations::bodies::misuses::{
+use crate::examples::explanations::bodies::misuses::{
     APART, ENDS_FIRST, FENCE, RELEASED_BY_MAIN, STOPPED_TWICE, TWO_WAIT, UNREACHABLE,
 };
-use crate::explanations::bodies::races::{BESIDE, MUTATED, OPEN, SPIN, THREE, UNRELEASED};
-use crate::explanations::bodies::values::{AFTER_EXIT, AFTER_MAIN, MADE_TWICE};
+use crate::examples::explanations::bodies::races::{
+    BESIDE, MUTATED, OPEN, SPIN, THREE, UNRELEASED,
+};
+use crate::examples::explanations::bodies::values::{AFTER_EXIT, AFTER_MAIN, MADE_TWICE};
+use crate::examples::script;
+use crate::page::Page;
 use loom::Choice;
 use loom::choices::Choices;
 use loom::explain::Displayed;
 use loom::model::builder::Builder;
 use loom_examples::scripts::script::Script;
 use loom_examples::scripts::step::Step;
-use loom_testing::page::Page;
 use std::alloc::Global;
 use std::process::Abort;
 

@@ -1,6 +1,6 @@
 //! Walks by several workers find what a walk by one finds, in the same runs.
 use crate::asserting::holds;
-use crate::walks::{Keeper, walk_of, walked};
+use crate::examples::walks::{Keeper, walk_of, walked};
 use loom::model::error::CheckError;
 use loom::model::{Builder, Walk, Walked};
 use loom::runner::{Visitors, walk_parallel};

@@ -1,6 +1,6 @@
 //! A text of values, as a test compares it.
 ghost use Rattle.std.specs.Prelude.{◌≡◌, [], string_bytes};
-ghost use Rattle.loom_testing.specs.Pages.{HasGot};
+ghost use Rattle.loom_tests.specs.Pages.{HasGot};
 
 use std::alloc::Global;
 use std::fmt::{Debug, Display};

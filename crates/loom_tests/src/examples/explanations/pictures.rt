@@ -3,7 +3,8 @@
 use super::{
     AT_LIMITS, CHOICES, LEAKS, LIMITS, Limits, MISUSES, RACES, Row, VALUES, WAITS, builder_of,
 };
-use crate::asserting::{holds, script};
+use crate::asserting::holds;
+use crate::examples::script;
 use loom::choices::Choices;
 use loom::sync::atomic::Ordering::{Acquire, Release};
 use loom_examples::scripts::step::{FAIL, Step};

@@ -1,6 +1,8 @@
 //! Explanations of runs of closures, with their data: whole texts.
 use crate::asserting::same;
-use crate::closures::{Count, holds, texts};
+use crate::closures::holds;
+use crate::examples::closures::{Count, texts};
+use crate::page::Page;
 use loom::choices::Choices;
 use loom::model::builder::Builder;
 use loom::runner::{Handle, Incomplete, RunnerError, Stop, expect_complete, explain};
@@ -9,7 +11,6 @@ use loom::sync::atomic::Ordering::{Acquire, Relaxed, Release};
 use loom::sync::atomic::{AtomicI32, AtomicU64};
 use loom::thread::JoinHandle;
 use loom_ops::cell::Cell;
-use loom_testing::page::Page;
 use std::process::Abort;
 use std::sync::Wait;
 use std::test::Fail;

@@ -1,9 +1,9 @@
 //! What is printed for people: a report of many choices, and why there is no report.
 use crate::asserting::same;
+use crate::page::Page;
 use loom::model::Report;
 use loom::runner::RunnerError;
 use loom::{Choice, Failure, FailureKind};
-use loom_testing::page::Page;
 use std::alloc::{AllocError, Global};
 use std::test::Fail;
 

@@ -1,7 +1,8 @@
 //! What is in the log of a check of closures, while it runs and behind each run.
 use crate::asserting::same;
 use crate::closures::holds;
-use crate::closures::resumed::{is_complete, is_stopped};
+use crate::examples::closures::resumed::{is_complete, is_stopped};
+use crate::page::Page;
 use log::kv::Source;
 use log::sink::Lines;
 use log::span::Spans;
@@ -12,7 +13,6 @@ use loom::runner::{Handle, Host, NoVisitor, RunnerError, Stop, check_with, expla
 use loom::{MemoryStore, NoClock};
 use loom_examples::closures::rows::ClosureRow;
 use loom_examples::closures::scenes;
-use loom_testing::page::Page;
 use std::alloc::{AllocError, Global};
 use std::fmt::Display;
 use std::rt::Clock;
