@@ -237,25 +237,34 @@ fn prints(rt: &(impl Abort + Host + Clock + Sync), call: &Call) {
     assert!(rt; is_printed(&pen, &other, answer, &printed), "{out}{err}");
 }
 
-#[test]
-fn words_print_answers(rt: HostRuntime) -> io::Result<()> {
-    fs::write(&rt, "one.litmus", ONE)?;
-    fs::write(&rt, "spin.litmus", SPIN)?;
-    fs::write(&rt, "wrong.litmus", WRONG)?;
+fn write_files(rt: &HostRuntime) -> io::Result<()> {
+    fs::write(rt, "one.litmus", ONE)?;
+    fs::write(rt, "spin.litmus", SPIN)?;
+    fs::write(rt, "wrong.litmus", WRONG)?;
     for (name, text) in &TEXTS {
         match *name {
-            "SB" => fs::write(&rt, "SB.litmus", *text)?,
-            "MP+na+rlx+rlx" => fs::write(&rt, "MP+na+rlx+rlx.litmus", *text)?,
+            "SB" => fs::write(rt, "SB.litmus", *text)?,
+            "MP+na+rlx+rlx" => fs::write(rt, "MP+na+rlx+rlx.litmus", *text)?,
             _ => {}
         }
     }
+    Ok(())
+}
+
+fn remove_files(rt: &HostRuntime) -> io::Result<()> {
+    for name in &FILES {
+        fs::remove_file(rt, *name)?;
+    }
+    Ok(())
+}
+
+#[test]
+fn words_print_answers(rt: HostRuntime) -> io::Result<()> {
+    write_files(&rt)?;
     for call in &CALLS {
         prints(&rt, call);
     }
-    for name in &FILES {
-        fs::remove_file(&rt, *name)?;
-    }
-    Ok(())
+    remove_files(&rt)
 }
 
 #[test]

@@ -222,7 +222,8 @@ fn statements(
     Ok(body)
 }
 
-fn thread(alloc: Global, numbers: &mut Numbers) -> Result<Thread, AllocError> {
+// The names of four registers, and the statements that declare them: each but the first one has a value.
+fn declared(alloc: Global) -> Result<(Vec<String>, Vec<Statement>), AllocError> {
     let mut registers = Vec::new(alloc);
     let mut body = Vec::new(alloc);
     for register in 0..4usize {
@@ -234,6 +235,11 @@ fn thread(alloc: Global, numbers: &mut Numbers) -> Result<Thread, AllocError> {
         let action = Action::Declare { register, value };
         body.push(Statement { line: 1, action })?;
     }
+    Ok((registers, body))
+}
+
+fn thread(alloc: Global, numbers: &mut Numbers) -> Result<Thread, AllocError> {
+    let (registers, mut body) = declared(alloc)?;
     for statement in statements(alloc, numbers, 2)? {
         body.push(statement)?;
     }
@@ -270,12 +276,17 @@ fn condition(alloc: Global, numbers: &mut Numbers, depth: u8) -> Result<Conditio
     }
 }
 
-fn made(alloc: Global, numbers: &mut Numbers) -> Result<Test, AllocError> {
+fn all_locations(alloc: Global) -> Result<Vec<Location>, AllocError> {
     let mut locations = Vec::new(alloc);
     for (name, kind, value) in LOCATIONS {
         let name = String::from_str(alloc, name)?;
         locations.push(Location { name, kind, value })?;
     }
+    Ok(locations)
+}
+
+fn made(alloc: Global, numbers: &mut Numbers) -> Result<Test, AllocError> {
+    let locations = all_locations(alloc)?;
     let mut threads = Vec::new(alloc);
     for _ in 0..numbers.below(4).max(1) {
         threads.push(thread(alloc, numbers)?)?;

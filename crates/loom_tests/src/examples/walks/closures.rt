@@ -134,18 +134,25 @@ fn walks_as_its_seed_says(rt: HostRuntime) {
     }
 }
 
-#[test]
-fn its_failures_are_made_again(rt: HostRuntime) {
+/// The failures that walks of this depth find in rows are made again.
+fn are_made_again<R: Abort + AllocGlobal + Clock + Threads + Wait + Clone + Send + 'static>(
+    rt: &R,
+    depth: Option<u32>,
+) {
     for row in [
         ClosureRow::TwoMutexesDeadlock,
         ClosureRow::BuggyConcurrentInc,
         ClosureRow::Stops,
     ] {
-        for depth in [None, Some(3)] {
-            let is_so = is_made_again(&rt, row, depth) == Some(true);
-            holds(&rt, is_so, row.name());
-        }
+        let is_so = is_made_again(rt, row, depth) == Some(true);
+        holds(rt, is_so, row.name());
     }
+}
+
+#[test]
+fn its_failures_are_made_again(rt: HostRuntime) {
+    are_made_again(&rt, None);
+    are_made_again(&rt, Some(3));
 }
 
 #[test]

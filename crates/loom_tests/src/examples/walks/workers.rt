@@ -86,30 +86,37 @@ fn apart(most: usize) -> Builder {
     builder
 }
 
+/// Up to eight workers find by walks of this depth what one finds.
+fn few_and_many_find_the_same<R: Abort + AllocGlobal + Threads + Sync>(rt: &R, depth: Option<u32>) {
+    let builder = apart(100_000);
+    let walk = walk_of(5, depth, 2_500);
+    for count in [0, 1, 2, 3, 8] {
+        let is_so = find_the_same(rt, &builder, STORE_BUFFERING, walk, count);
+        holds(rt, is_so, "store buffering");
+        let is_so = find_the_same(rt, &builder, FIVE_COUNTING, walk, count);
+        holds(rt, is_so, "five that count");
+    }
+}
+
 #[test]
 fn workers_find_what_one_finds(rt: HostRuntime) {
-    let builder = apart(100_000);
-    for depth in [None, Some(3)] {
-        for count in [0, 1, 2, 3, 8] {
-            let walk = walk_of(5, depth, 2_500);
-            let is_so = find_the_same(&rt, &builder, STORE_BUFFERING, walk, count);
-            holds(&rt, is_so, "store buffering");
-            let is_so = find_the_same(&rt, &builder, FIVE_COUNTING, walk, count);
-            holds(&rt, is_so, "five that count");
-        }
+    few_and_many_find_the_same(&rt, None);
+    few_and_many_find_the_same(&rt, Some(3));
+}
+
+/// Up to three workers find by this walk what one finds where a failure is planted.
+fn find_what_is_planted<R: Abort + AllocGlobal + Threads + Sync>(rt: &R, walk: Walk) {
+    for count in [1, 2, 3] {
+        let is_so = find_the_same(rt, &apart(100_000), THREE_PLANTED, walk, count);
+        holds(rt, is_so, "three planted");
     }
 }
 
 #[test]
 fn workers_find_what_is_planted(rt: HostRuntime) {
-    for depth in [None, Some(3)] {
-        for seed in [1, 2] {
-            for count in [1, 2, 3] {
-                let walk = walk_of(seed, depth, 20_000);
-                let is_so = find_the_same(&rt, &apart(100_000), THREE_PLANTED, walk, count);
-                holds(&rt, is_so, "three planted");
-            }
-        }
+    for seed in [1, 2] {
+        find_what_is_planted(&rt, walk_of(seed, None, 20_000));
+        find_what_is_planted(&rt, walk_of(seed, Some(3), 20_000));
     }
 }
 
