@@ -55,6 +55,7 @@ mod locks;
 mod long_checks;
 mod others;
 mod parts;
+mod pens;
 mod plain;
 mod printed;
 mod rows;

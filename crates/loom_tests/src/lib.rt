@@ -1,4 +1,4 @@
-//! Tests of the libraries and of the examples; and what tests of several crates write with, which no program calls.
+//! Tests of the libraries and of the examples; and the text that tests put together, those of `loom_rows` too. No program calls it.
 #![tactic(auto)]
 
 #[cfg(test)]
@@ -14,7 +14,6 @@ mod closures;
 #[cfg(test)]
 mod examples;
 pub mod page;
-pub mod pens;
 #[cfg(test)]
 mod porting;
 #[cfg(test)]

@@ -1,7 +1,6 @@
 //! What the program of litmus tests does with words.
 use crate::tests::reading::texts::TEXTS;
 use loom::runner::Host;
-use loom_tests::pens::{Pen, Printed, is_printed};
 use loom_text::words::run_words;
 use std::process::Abort;
 use std::rt::Clock;
@@ -225,16 +224,13 @@ const WRONG: &str =
 
 fn prints(rt: &(impl Abort + Host + Clock + Sync), call: &Call) {
     let (words, out, err, status) = *call;
-    let mut pen = Pen::new(rt.alloc());
-    let mut other = Pen::new(rt.alloc());
-    let answer = run_words(rt, words, &mut pen, &mut other);
-    let printed = Printed {
-        out,
-        goes_on: false,
-        err,
-        status,
-    };
-    assert!(rt; is_printed(&pen, &other, answer, &printed), "{out}{err}");
+    let mut printed: Vec<u8> = Vec::new(rt.alloc());
+    let mut said: Vec<u8> = Vec::new(rt.alloc());
+    let answer = run_words(rt, words, &mut printed, &mut said);
+    let is_so = answer == status
+        && printed.as_slice() == out.as_bytes()
+        && said.as_slice() == err.as_bytes();
+    assert!(rt; is_so, "{out}{err}");
 }
 
 fn write_files(rt: &HostRuntime) -> io::Result<()> {
@@ -269,9 +265,9 @@ fn words_print_answers(rt: HostRuntime) -> io::Result<()> {
 
 #[test]
 fn the_help_tells_of_workers(rt: HostRuntime) {
-    let mut pen = Pen::new(rt.alloc());
-    let mut other = Pen::new(rt.alloc());
-    let status = run_words(&rt, &["--help"], &mut pen, &mut other);
-    let help = str::from_utf8(pen.text.as_slice()).unwrap_or("");
+    let mut printed: Vec<u8> = Vec::new(rt.alloc());
+    let mut said: Vec<u8> = Vec::new(rt.alloc());
+    let status = run_words(&rt, &["--help"], &mut printed, &mut said);
+    let help = str::from_utf8(printed.as_slice()).unwrap_or("");
     assert!(&rt; status == 0 && help.contains("--jobs <N>"));
 }

@@ -2,9 +2,9 @@
 use super::rows::program_rows;
 use super::words::says;
 use crate::tests::asserting::holds;
+use crate::tests::pens::{Pen, Printed};
 use loom_examples::rows::{Row, run_row};
 use loom_tests::page::Page;
-use loom_tests::pens::{Pen, Printed};
 use std::alloc::Global;
 use std::process::Abort;
 use std::rt::{Clock, Files};

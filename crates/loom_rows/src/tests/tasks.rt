@@ -2,11 +2,11 @@
 use super::printed::long_line;
 use super::rows::rows_of;
 use crate::tests::asserting::holds;
+use crate::tests::pens::{Pen, Printed, is_printed};
 use loom::Choice;
 use loom_examples::rows::settings::Settings;
 use loom_examples::rows::tasks::{Task, do_task};
 use loom_examples::rows::{DEFAULTS, LONG_RUNS, Row, row_of};
-use loom_tests::pens::{Pen, Printed, is_printed};
 use std::process::Abort;
 use std::rt::Files;
 

@@ -1,7 +1,7 @@
 //! What the program does with words.
 use crate::tests::asserting::holds;
+use crate::tests::pens::{Pen, Printed, is_printed};
 use loom_examples::rows::words::run_words;
-use loom_tests::pens::{Pen, Printed, is_printed};
 use std::process::Abort;
 use std::rt::{Clock, Files};
 

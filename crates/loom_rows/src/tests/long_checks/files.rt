@@ -1,10 +1,10 @@
 //! The program with a checkpoint file.
 use super::TWO_NODES;
 use crate::tests::asserting::holds;
+use crate::tests::pens::{Pen, Printed, is_printed};
 use crate::tests::rows::program_rows;
 use crate::tests::words::says;
 use loom_examples::rows::{self, Row};
-use loom_tests::pens::{Pen, Printed, is_printed};
 use std::process::Abort;
 use std::rt::Files;
 use std::{fs, io};

@@ -1,11 +1,11 @@
 //! The program's checks in parts: by several workers, with the list of parts in their file, and in a folder of files, one for each part.
 use crate::tests::asserting::{holds, same};
+use crate::tests::pens::Pen;
 use loom::runner::Host;
 use loom_examples::rows::options::{Asked, RowAsked, read};
 use loom_examples::rows::words::run_asked;
 use loom_examples::rows::{jobs, shares};
 use loom_tests::page::Page;
-use loom_tests::pens::Pen;
 use std::fs::{self, File};
 use std::io;
 use std::process::Abort;
